@@ -236,15 +236,15 @@ unfoldable pub enclosedOf : ℤ → ℤ → Analysis → Analysis
 enclosedOf l h a = record { ok = a .ok; bound = record { lo = l; hi = h; err = a .bound .err } }
 
 -- a constant is a whole number of quanta
-abbrev pub signed : Bool → ℕ → ℤ
-signed s g = cond s (negℤ (pos g)) (pos g)
+abbrev pub signedℤ : Bool → ℕ → ℤ
+signedℤ s g = cond s (negℤ (pos g)) (pos g)
 
 unfoldable pub constantOf : Format → Float → Analysis
 constantOf f nan = record { ok = false; bound = record { lo = pos 0; hi = pos 0; err = 0 } }
 constantOf f (inf s) = record { ok = false; bound = record { lo = pos 0; hi = pos 0; err = 0 } }
 constantOf f (fin s m e) =
     let g = m * up e * 2 ^ low f / down e in
-    record { ok = eqb (m * up e * 2 ^ low f) (g * down e); bound = record { lo = signed s g; hi = signed s g; err = 0 } }
+    record { ok = eqb (m * up e * 2 ^ low f) (g * down e); bound = record { lo = signedℤ s g; hi = signedℤ s g; err = 0 } }
 
 -- z quanta in place of (p - n) / d, which lies between L and H quanta: at most e away
 abbrev pub approxOk : ℕ → ℤ → ℕ → ℕ → ℕ → ℤ → ℤ → ℕ → Bool

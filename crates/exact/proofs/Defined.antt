@@ -51,8 +51,8 @@ quotient-defined a b = go (b .num) (b .den)
 pub negation-defined : (a : Fraction) → Defined (negℚ a) ↔ Defined a
 negation-defined a = (λ h. h, λ h. h)
 
-pub size-defined : (a : Fraction) → Defined (absℚ a) ↔ Defined a
-size-defined a = (λ h. h, λ h. h)
+pub abs-defined : (a : Fraction) → Defined (absℚ a) ↔ Defined a
+abs-defined a = (λ h. h, λ h. h)
 
 pub unit-defined : (a : Fraction) → Defined (unitℚ a) ↔ Defined a
 unit-defined a = (λ h. h, λ h. h)

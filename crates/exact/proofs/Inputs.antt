@@ -18,18 +18,19 @@ use Rattle.exact.specs.Value.{value, Within, Equal}
 use Rattle.exact.proofs.Close.{ring, Close, times, cancel}
 use Rattle.exact.proofs.Parts.{part⁺, part⁻, num⁺, num⁻, leZ-parts}
 use Rattle.exact.proofs.Order.{≤ℚ-parts, close-within, within-close, le-value, between-finite}
-use Rattle.exact.proofs.Quanta.{quanta-of, quanta-value, value-defined, finite-of-defined, equal⁺, equal⁻}
+use Rattle.exact.proofs.Quanta.{quanta-of, quanta-value, quanta-defined, equal⁺, equal⁻}
+use Rattle.exact.proofs.Defined.{value-defined}
 use Rattle.exact.proofs.Analyser as A
 use Rattle.exact.proofs.Analyser.{Bound, Analysis, Expr, Approximates, Lower, Upper, Near, Facts, evalFloat, evalExact, analyse, certified, constantOf}
 use Rattle.exact.proofs.Soundness.{constant-sound, sound, plainly}
 
 -- ---- A RESULT: |x - A| ≤ r / s
-pub result : (f : Format) (x : Float) (A : Fraction) (b : Bound) (r s : ℕ) → Approximates f x A b → b .err * s ≤ r * 2 ^ low f → Within (value x) A (ratio r s)
-result f x A b r s h l =
+pub result : (f : Format) (x : Float) (A : Fraction) (b : Bound) (r s : ℕ) → 0 < s → Approximates f x A b → b .err * s ≤ r * 2 ^ low f → Within (value x) A (ratio r s)
+result f x A b r s S h l =
     let U = 2 ^ low f in
     let n = h .near in
-    let d = value-defined U x (n .plus) (n .minus) (n .quanta) in
-    close-within r s d (h .defined)
+    let d = quanta-defined U x (n .plus) (n .minus) (n .quanta) in
+    close-within d (h .defined) S
     (rescaled U (n .plus) (n .minus) (num⁺ (value x)) (num⁻ (value x)) (value x .den) (num⁺ A) (num⁻ A) (A .den) (b .err) r s (pow-pos (low f)) (quanta-value U x (n .plus) (n .minus) (n .quanta)) (n .close) l)
   where
     across : (U x x' P N D Q M E e : ℕ) → P * U + x' * D ≡ N * U + x * D → Close (x * E + M * U) (x' * E + Q * U) (e * E) → Close ((P * E + M * D) * U) ((N * E + Q * D) * U) (e * (D * E))
@@ -70,12 +71,12 @@ input f x lo hi t a b l h =
     let U = 2 ^ low f in
     let u = constant-sound f lo a in
     let v = constant-sound f hi b in
-    let flo = finite-of-defined lo (u .defined) in
-    let fhi = finite-of-defined hi (v .defined) in
+    let flo = value-defined lo .0 (u .defined) in
+    let fhi = value-defined hi .0 (v .defined) in
     let fx = between-finite lo x hi flo fhi l h in
     let n = own-near f x t fx in
     record {
-      defined = value-defined U x (n .plus) (n .minus) (n .quanta);
+      defined = quanta-defined U x (n .plus) (n .minus) (n .quanta);
       near = n;
       lower = above U (num⁺ (value x)) (num⁻ (value x)) (value x .den) (num⁺ (value lo)) (num⁻ (value lo)) (value lo .den) (part⁺ (constantOf f lo .bound .lo)) (part⁻ (constantOf f lo .bound .lo)) (u .defined)
           (≤ℚ-parts (value lo) (value x) (le-value lo x flo fx .0 l)) (u .lower);
@@ -84,40 +85,28 @@ input f x lo hi t a b l h =
     }
 
 -- ---- an exact value that is equal, and looser bounds
-pub equally : (f : Format) (x : Float) (A B : Fraction) (b : Bound) → Equal A B → Approximates f x A b → Approximates f x B b
-equally f x A B b e h =
-    let U = 2 ^ low f in
-    let n = h .near in
+pub equal-near : (f : Format) (x : Float) (A B : Fraction) (e : ℕ) → Equal A B → Near (2 ^ low f) x A e → Near (2 ^ low f) x B e
+equal-near f x A B e q n =
     record {
-      defined = e .right;
-      near = record { plus = n .plus; minus = n .minus; quanta = n .quanta; close = cancel (A .den) (h .defined) (core (n .plus) (n .minus) (b .err) (n .close)) };
-      lower = le-of-mul-le-mul-right (low' (part⁺ (b .lo)) (part⁻ (b .lo)) (h .lower)) (h .defined);
-      upper = le-of-mul-le-mul-right (high' (part⁺ (b .hi)) (part⁻ (b .hi)) (h .upper)) (h .defined);
+      plus = n .plus;
+      minus = n .minus;
+      quanta = n .quanta;
+      close =
+          cancel (A .den) (q .left)
+          (core (n .plus) (n .minus) (num⁺ A) (num⁻ A) (A .den) (num⁺ B) (num⁻ B) (B .den) (times (B .den) (n .close)) (ap (λ (z : ℕ). z * 2 ^ low f) (equal⁺ q)) (ap (λ (z : ℕ). z * 2 ^ low f) (equal⁻ q)));
     }
   where
-    U : ℕ
-    U = 2 ^ low f
-
-    core : (p n e' : ℕ) → Close (p * A .den + num⁻ A * U) (n * A .den + num⁺ A * U) (e' * A .den)
-        → Close ((p * B .den + num⁻ B * U) * A .den) ((n * B .den + num⁺ B * U) * A .den) (e' * B .den * A .den)
-    core p n e' h =
-        plain (num⁺ A) (num⁻ A) (A .den) (num⁺ B) (num⁻ B) (B .den) (times (B .den) h) (ap (λ (z : ℕ). z * U) (equal⁺ e)) (ap (λ (z : ℕ). z * U) (equal⁻ e))
+    core : (p n P N D Q M E : ℕ) → Close ((p * D + N * 2 ^ low f) * E) ((n * D + P * 2 ^ low f) * E) (e * D * E) → P * E * 2 ^ low f ≡ Q * D * 2 ^ low f → N * E * 2 ^ low f ≡ M * D * 2 ^ low f
+        → Close ((p * E + M * 2 ^ low f) * D) ((n * E + Q * 2 ^ low f) * D) (e * E * D)
+    core p n P N D Q M E h i j = plain (2 ^ low f) h i j
       where
-        plain : (P N D Q M E : ℕ) → Close ((p * D + N * U) * E) ((n * D + P * U) * E) (e' * D * E) → P * E * U ≡ Q * D * U → N * E * U ≡ M * D * U
-            → Close ((p * E + M * U) * D) ((n * E + Q * U) * D) (e' * E * D)
-        plain P N D Q M E h i j = simp ring (omega (arith, simp ring at h, simp ring at i, simp ring at j))
+        plain : (U : ℕ) → Close ((p * D + N * U) * E) ((n * D + P * U) * E) (e * D * E) → P * E * U ≡ Q * D * U → N * E * U ≡ M * D * U → Close ((p * E + M * U) * D) ((n * E + Q * U) * D) (e * E * D)
+        plain U h i j = simp ring (omega (arith, simp ring at h, simp ring at i, simp ring at j))
 
-    low' : (l l' : ℕ) → l * A .den + num⁻ A * U ≤ num⁺ A * U + l' * A .den → (l * B .den + num⁻ B * U) * A .den ≤ (num⁺ B * U + l' * B .den) * A .den
-    low' l l' h = plain (num⁺ A) (num⁻ A) (A .den) (num⁺ B) (num⁻ B) (B .den) (mul-le-mul-right (B .den) h) (ap (λ (z : ℕ). z * U) (equal⁺ e)) (ap (λ (z : ℕ). z * U) (equal⁻ e))
-      where
-        plain : (P N D Q M E : ℕ) → (l * D + N * U) * E ≤ (P * U + l' * D) * E → P * E * U ≡ Q * D * U → N * E * U ≡ M * D * U → (l * E + M * U) * D ≤ (Q * U + l' * E) * D
-        plain P N D Q M E h i j = simp ring (omega (arith, simp ring at h, simp ring at i, simp ring at j))
-
-    high' : (l l' : ℕ) → num⁺ A * U + l' * A .den ≤ l * A .den + num⁻ A * U → (num⁺ B * U + l' * B .den) * A .den ≤ (l * B .den + num⁻ B * U) * A .den
-    high' l l' h = plain (num⁺ A) (num⁻ A) (A .den) (num⁺ B) (num⁻ B) (B .den) (mul-le-mul-right (B .den) h) (ap (λ (z : ℕ). z * U) (equal⁺ e)) (ap (λ (z : ℕ). z * U) (equal⁻ e))
-      where
-        plain : (P N D Q M E : ℕ) → (P * U + l' * D) * E ≤ (l * D + N * U) * E → P * E * U ≡ Q * D * U → N * E * U ≡ M * D * U → (Q * U + l' * E) * D ≤ (l * E + M * U) * D
-        plain P N D Q M E h i j = simp ring (omega (arith, simp ring at h, simp ring at i, simp ring at j))
+-- a float of the format that is equal to A stands for it with no error
+pub exact-input : (f : Format) (x : Float) (A : Fraction) (lo hi : ℤ) → T (fits f x) → Equal (value x) A → Lower (2 ^ low f) A lo → Upper (2 ^ low f) A hi
+    → Approximates f x A (record { lo = lo; hi = hi; err = 0 })
+exact-input f x A lo hi t e l h = record { defined = e .right; near = equal-near f x (value x) A 0 e (own-near f x t (value-defined x .0 (e .left))); lower = l; upper = h }
 
 -- b allows whatever a does
 unfoldable pub covers : Bound → Bound → Bool
@@ -150,13 +139,25 @@ relax f x A a b h t =
     upper-relax p n d l l' k k' h i = omega (arith, mul-le-mul-right d i)
 
 -- ---- WHAT AN APPLICATION CITES
-pub bounded : (f : Format) (ρ : ℕ → Float) (σ : ℕ → Fraction) (β : ℕ → Bound) → ((i : ℕ) → Approximates f (ρ i) (σ i) (β i)) → (e : Expr) → Facts f σ e → (r s : ℕ)
+pub bounded : (f : Format) (ρ : ℕ → Float) (σ : ℕ → Fraction) (β : ℕ → Bound) → ((i : ℕ) → Approximates f (ρ i) (σ i) (β i)) → (e : Expr) → Facts f σ e → (r s : ℕ) → 0 < s
     → T (certified f β e r s) → Within (value (evalFloat f ρ e)) (evalExact σ e) (ratio r s)
 unfolding certified
-bounded f ρ σ β v e k r s t =
+bounded f ρ σ β v e k r s S t =
     let a = analyse f β e in
     let b = leb (a .bound .err * s) (r * 2 ^ low f) in
-    result f (evalFloat f ρ e) (evalExact σ e) (a .bound) r s (sound f ρ σ β v e k (and-l (a .ok) b t)) (leb→le (a .bound .err * s) (r * 2 ^ low f) (and-r (a .ok) b t))
+    result f (evalFloat f ρ e) (evalExact σ e) (a .bound) r s S (sound f ρ σ β v e k (and-l (a .ok) b t)) (leb→le (a .bound .err * s) (r * 2 ^ low f) (and-r (a .ok) b t))
+
+-- the same in stages: the bound that one analysis ends in, rounded outward to c, is an input of the next
+unfoldable pub concludes : Format → (ℕ → Bound) → Expr → Bound → Bool
+unfolding analyse covers
+concludes f β e c = analyse f β e .ok && covers (analyse f β e .bound) c
+
+pub concluded : (f : Format) (ρ : ℕ → Float) (σ : ℕ → Fraction) (β : ℕ → Bound) → ((i : ℕ) → Approximates f (ρ i) (σ i) (β i)) → (e : Expr) → Facts f σ e → (c : Bound)
+    → T (concludes f β e c) → Approximates f (evalFloat f ρ e) (evalExact σ e) c
+unfolding concludes
+concluded f ρ σ β v e k c t =
+    let a = analyse f β e in
+    relax f (evalFloat f ρ e) (evalExact σ e) (a .bound) c (sound f ρ σ β v e k (and-l (a .ok) (covers (a .bound) c) t)) (and-r (a .ok) (covers (a .bound) c) t)
 
 -- one input, or two, or three
 unfoldable pub one : {X : Type 0} → X → ℕ → X

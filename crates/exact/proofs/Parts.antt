@@ -75,6 +75,18 @@ scale⁻ a c = mul⁻ a (pos c) ∙ flat (part⁺ a) (part⁻ a) c
     flat : (p n c : ℕ) → p * 0 + n * c ≡ n * c
     flat p n c = omega arith
 
+pub times⁺ : (c : ℕ) (z : ℤ) → part⁺ (pos c *ℤ z) ≡ c * part⁺ z
+times⁺ c z = mul⁺ (pos c) z ∙ flat (part⁺ z) (part⁻ z)
+  where
+    flat : (p n : ℕ) → c * p + 0 * n ≡ c * p
+    flat p n = omega arith
+
+pub times⁻ : (c : ℕ) (z : ℤ) → part⁻ (pos c *ℤ z) ≡ c * part⁻ z
+times⁻ c z = mul⁻ (pos c) z ∙ flat (part⁺ z) (part⁻ z)
+  where
+    flat : (p n : ℕ) → c * n + 0 * p ≡ c * n
+    flat p n = omega arith
+
 -- ---- a sign and a size
 pub signed⁺ : (s : Bool) (m : ℕ) → part⁺ (cond s (negℤ (pos m)) (pos m)) ≡ cond s 0 m
 signed⁺ false m = refl

@@ -4,7 +4,7 @@
 use mathlib.Core.Path.{_≡_, refl, sym, ap, subst, subst₂, _∙_}
 use mathlib.Core.Bool.{Bool, true, false, cond, _&&_}
 use Prim.Native.Nat.{ℕ, zero, suc, _+_, _-_, _*_, _%_, _^_, _≤_, _<_}
-use native.Mathlib.Nat.{mul-le-mul-right, mul-lt-mul-of-pos-right, eq-of-mul-eq-mul-right, add-sub-of-le, lt-of-not-le, not-le-of-lt, le-of-suc-le-suc}
+use native.Mathlib.Nat.{lt-irrefl, mul-le-mul-right, mul-lt-mul-of-pos-right, eq-of-mul-eq-mul-right, add-sub-of-le, lt-of-not-le, not-le-of-lt, le-of-suc-le-suc}
 use native.Mathlib.Omega.{arith}
 use lib.IntN.{ℤ, pos, negsuc, negℤ, _*ℤ_}
 use lib.Dec.{T, leb, ltb, eqb, leb→le, ltb→lt}
@@ -12,56 +12,47 @@ use lib.Pow.{pow-pos, pow-add, pow-lt}
 use lib.Ieee.{Float, nan, inf, fin, Format, prec, emax, low, up, down, fits}
 use lib.Ieee.Fits.{down-pos, and-l, and-r}
 use lib.Ieee.Scale.{finite, overflow}
-use Rattle.exact.specs.Fraction.{Fraction, Defined, whole, _+ℚ_, _-ℚ_, _≤ℚ_}
+use Rattle.exact.specs.Fraction.{Fraction, Defined, whole, signed, _+ℚ_, _-ℚ_, _≤ℚ_}
 use Rattle.exact.specs.Value.{value, Equal}
 use Rattle.exact.proofs.Parts.{part⁺, part⁻, num⁺, num⁻, scale⁺, scale⁻, signed⁺, signed⁻, OneSided, up as nonnegative, down as nonpositive, sum-parts, difference-parts}
-use Rattle.exact.proofs.Across.{le-across}
+use Rattle.exact.proofs.Order.{≤ℚ-parts, parts-equal}
 use Rattle.exact.proofs.Operations.{Signed, Quanta}
 
--- ---- finite floats are those whose value is defined
-pub defined-of-finite : (x : Float) → T (finite x) → Defined (value x)
-unfolding value
-defined-of-finite nan t = absurd t
-defined-of-finite (inf s) t = absurd t
-defined-of-finite (fin s m e) t = down-pos e
-
-pub finite-of-defined : (x : Float) → Defined (value x) → T (finite x)
-unfolding value
-finite-of-defined nan h = let k : 0 < 0 = h in omega arith
-finite-of-defined (inf s) h = let k : 0 < 0 = h in omega arith
-finite-of-defined (fin s m e) h = tt
-
--- ---- quanta of a float, and of its value
+-- ---- quanta of a signed fraction, of a float, and of its value
 abbrev pub HasQuanta : ℕ → Fraction → ℕ → ℕ → Type 0
 HasQuanta U a p n = num⁺ a * U + n * a .den ≡ num⁻ a * U + p * a .den
 
-pub value-defined : (U : ℕ) (x : Float) (p n : ℕ) → Quanta U x p n → Defined (value x)
+pub signed-quanta : (U : ℕ) (s : Bool) (a c p n : ℕ) → Signed s a c p n U → HasQuanta U (signed s a c) p n
+signed-quanta U s a c p n h = subst₂ (λ (P N : ℕ). P * U + n * c ≡ N * U + p * c) (sym (signed⁺ s a)) (sym (signed⁻ s a)) (go s h)
+  where
+    go : (s : Bool) → Signed s a c p n U → cond s 0 a * U + n * c ≡ cond s a 0 * U + p * c
+    go false h = omega arith
+    go true h = omega arith
+
+pub quanta-signed : (U : ℕ) (s : Bool) (a c p n : ℕ) → HasQuanta U (signed s a c) p n → Signed s a c p n U
+quanta-signed U s a c p n h = go s (subst₂ (λ (P N : ℕ). P * U + n * c ≡ N * U + p * c) (signed⁺ s a) (signed⁻ s a) h)
+  where
+    go : (s : Bool) → cond s 0 a * U + n * c ≡ cond s a 0 * U + p * c → Signed s a c p n U
+    go false h = omega arith
+    go true h = omega arith
+
+pub quanta-defined : (U : ℕ) (x : Float) (p n : ℕ) → Quanta U x p n → Defined (value x)
 unfolding value
-value-defined U nan p n h = absurd h
-value-defined U (inf s) p n h = absurd h
-value-defined U (fin s m e) p n h = down-pos e
+quanta-defined U nan p n h = absurd h
+quanta-defined U (inf s) p n h = absurd h
+quanta-defined U (fin s m e) p n h = down-pos e
 
 pub quanta-value : (U : ℕ) (x : Float) (p n : ℕ) → Quanta U x p n → HasQuanta U (value x) p n
 unfolding value
 quanta-value U nan p n h = absurd h
 quanta-value U (inf s) p n h = absurd h
-quanta-value U (fin s m e) p n h =
-    subst₂ (λ (P N : ℕ). P * U + n * down e ≡ N * U + p * down e) (sym (signed⁺ s (m * up e))) (sym (signed⁻ s (m * up e))) (go s h)
-  where
-    go : (s : Bool) → Signed s (m * up e) (down e) p n U → cond s 0 (m * up e) * U + n * down e ≡ cond s (m * up e) 0 * U + p * down e
-    go false h = omega arith
-    go true h = omega arith
+quanta-value U (fin s m e) p n h = signed-quanta U s (m * up e) (down e) p n h
 
 pub value-quanta : (U : ℕ) (x : Float) (p n : ℕ) → Defined (value x) → HasQuanta U (value x) p n → Quanta U x p n
 unfolding value
-value-quanta U nan p n d h = let k : 0 < 0 = d in omega arith
-value-quanta U (inf s) p n d h = let k : 0 < 0 = d in omega arith
-value-quanta U (fin s m e) p n d h =
-    go s (subst₂ (λ (P N : ℕ). P * U + n * down e ≡ N * U + p * down e) (signed⁺ s (m * up e)) (signed⁻ s (m * up e)) h)
-  where
-    go : (s : Bool) → cond s 0 (m * up e) * U + n * down e ≡ cond s (m * up e) 0 * U + p * down e → Signed s (m * up e) (down e) p n U
-    go false h = omega arith
-    go true h = omega arith
+value-quanta U nan p n d h = absurd (lt-irrefl 0 d)
+value-quanta U (inf s) p n d h = absurd (lt-irrefl 0 d)
+value-quanta U (fin s m e) p n d h = quanta-signed U s (m * up e) (down e) p n h
 
 -- ---- quanta of a sum and of a difference
 pub sum-quanta : (U : ℕ) (a b : Fraction) (p n q m : ℕ) → HasQuanta U a p n → HasQuanta U b q m → HasQuanta U (a +ℚ b) (p + q) (n + m)
@@ -79,38 +70,15 @@ difference-quanta U a b p n q m h k = core (num⁺ a) (num⁻ a) (a .den) (num�
     core P N D Q M E S R h k e = omega (arith, ap (λ (z : ℕ). z * E) h, ap (λ (z : ℕ). z * D) k, ap (λ (z : ℕ). z * U) e)
 
 -- ---- equal fractions have equal quanta, and fractions of equal quanta are equal
--- a whole number is known by its parts
-pub same-parts : (a b : ℤ) → part⁺ a + part⁻ b ≡ part⁺ b + part⁻ a → a ≡ b
-same-parts (pos a) (pos b) h = let e : a ≡ b = omega arith in ap pos e
-same-parts (pos a) (negsuc b) h = absurd (apart a b h)
-  where
-    apart : (a b : ℕ) → a + suc b ≡ 0 + 0 → ⊥
-    apart a b h = omega arith
-same-parts (negsuc a) (pos b) h = absurd (apart a b h)
-  where
-    apart : (a b : ℕ) → 0 + 0 ≡ b + suc a → ⊥
-    apart a b h = omega arith
-same-parts (negsuc a) (negsuc b) h = let e : a ≡ b = omega arith in ap negsuc e
-
 pub equal⁺ : {a b : Fraction} → Equal a b → num⁺ a * b .den ≡ num⁺ b * a .den
 equal⁺ {a} {b} h = sym (scale⁺ (a .num) (b .den)) ∙ ap part⁺ (h .same) ∙ scale⁺ (b .num) (a .den)
 
 pub equal⁻ : {a b : Fraction} → Equal a b → num⁻ a * b .den ≡ num⁻ b * a .den
 equal⁻ {a} {b} h = sym (scale⁻ (a .num) (b .den)) ∙ ap part⁻ (h .same) ∙ scale⁻ (b .num) (a .den)
 
-pub equal-of-parts : (a b : Fraction) → Defined a → Defined b → num⁺ a * b .den + num⁻ b * a .den ≡ num⁺ b * a .den + num⁻ a * b .den → Equal a b
-equal-of-parts a b d e h =
-    record {
-      left = d;
-      right = e;
-      same =
-          same-parts (a .num *ℤ pos (b .den)) (b .num *ℤ pos (a .den))
-          (omega (arith, scale⁺ (a .num) (b .den), scale⁻ (a .num) (b .den), scale⁺ (b .num) (a .den), scale⁻ (b .num) (a .den)));
-    }
-
 pub same-quanta : (U : ℕ) (a b : Fraction) (p n : ℕ) → 0 < U → Defined a → Defined b → HasQuanta U a p n → HasQuanta U b p n → Equal a b
 same-quanta U a b p n P d e h k =
-    equal-of-parts a b d e
+    parts-equal d e
     (eq-of-mul-eq-mul-right U P (num⁺ a * b .den + num⁻ b * a .den) (num⁺ b * a .den + num⁻ a * b .den) (core (num⁺ a) (num⁻ a) (a .den) (num⁺ b) (num⁻ b) (b .den) h k))
   where
     core : (P N D Q M E : ℕ) → P * U + n * D ≡ N * U + p * D → Q * U + n * E ≡ M * U + p * E → (P * E + M * D) * U ≡ (Q * D + N * E) * U
@@ -126,7 +94,7 @@ equal-quanta U a b p n e h =
 
 -- the value of a float, by its quanta; and the quanta of a float, by its value
 pub equal-of-quanta : (U : ℕ) (x : Float) (a : Fraction) (p n : ℕ) → 0 < U → Defined a → Quanta U x p n → HasQuanta U a p n → Equal (value x) a
-equal-of-quanta U x a p n P d h k = same-quanta U (value x) a p n P (value-defined U x p n h) d (quanta-value U x p n h) k
+equal-of-quanta U x a p n P d h k = same-quanta U (value x) a p n P (quanta-defined U x p n h) d (quanta-value U x p n h) k
 
 pub quanta-of-equal : (U : ℕ) (x : Float) (a : Fraction) (p n : ℕ) → Equal (value x) a → HasQuanta U a p n → Quanta U x p n
 quanta-of-equal U x a p n e h = value-quanta U x p n (e .left) (equal-quanta U (value x) a p n e h)
@@ -231,8 +199,8 @@ nonnegative-quanta f x w h =
     let g = w .significand * 2 ^ w .shift in
     let P = cond (w .negative) 0 g in
     let N = cond (w .negative) g 0 in
-    value-quanta (2 ^ low f) x g 0 (value-defined (2 ^ low f) x P N (w .quanta))
-    (core (w .negative) (num⁺ (value x)) (num⁻ (value x)) (value x .den) g (2 ^ low f) (quanta-value (2 ^ low f) x P N (w .quanta)) (le-across (whole (pos 0)) (value x) h))
+    value-quanta (2 ^ low f) x g 0 (quanta-defined (2 ^ low f) x P N (w .quanta))
+    (core (w .negative) (num⁺ (value x)) (num⁻ (value x)) (value x .den) g (2 ^ low f) (quanta-value (2 ^ low f) x P N (w .quanta)) (≤ℚ-parts (whole (pos 0)) (value x) h))
   where
     core : (s : Bool) (P N D g U : ℕ) → P * U + cond s g 0 * D ≡ N * U + cond s 0 g * D → 0 * D + N * 1 ≤ P * 1 + 0 * D → P * U + 0 * D ≡ N * U + g * D
     core false P N D g U e h = e

@@ -20,7 +20,7 @@ use Rattle.exact.proofs.Operations.{Signed, Quanta, NearParts, neg-quan
 use Rattle.exact.proofs.Propagation.{Propagated, AtLeast, AtMost, ProductAtMost, rounded-near, sum-error, product-error, quotient-error, magnitude-close, float-size, sum-at-least, sum-at-most, product-at-least, product-at-most, quotient-at-least, quotient-at-most, least→most, most→least, exchange}
 use Rattle.exact.proofs.Clamp.{clamp-near, unit-lower, unit-upper}
 use Rattle.exact.proofs.Analyser as A
-use Rattle.exact.proofs.Analyser.{Bound, Analysis, Expr, Approximates, Lower, Upper, Near, Facts, magnitude, evalFloat, evalExact, clampUnit, analyse, errorAtMost, certified, fitsBinade, roundingOf, plusOf, negatedOf, timesOf, encloses, timesOk, divisorOk, quotientOk, quotientOf, overOk, overOf, divisorLeast, inherited, leastOver, mostOver, clampedOf, truncatedOf, enclosedOf, signed, constantOf, approxOk, approxOf}
+use Rattle.exact.proofs.Analyser.{Bound, Analysis, Expr, Approximates, Lower, Upper, Near, Facts, magnitude, evalFloat, evalExact, clampUnit, analyse, errorAtMost, certified, fitsBinade, roundingOf, plusOf, negatedOf, timesOf, encloses, timesOk, divisorOk, quotientOk, quotientOf, overOk, overOf, divisorLeast, inherited, leastOver, mostOver, clampedOf, truncatedOf, enclosedOf, signedℤ, constantOf, approxOk, approxOf}
 
 -- ---- tests
 both : (a b : Bool) → T (a && b) → T a × T b
@@ -414,7 +414,7 @@ over-guard f a b ok =
     (w .0, w .1)
 
 -- ---- CONSTANTS
-constant-signed : (s : Bool) (m d g U : ℕ) → m * U ≡ g * d → Signed s m d (part⁺ (signed s g)) (part⁻ (signed s g)) U
+constant-signed : (s : Bool) (m d g U : ℕ) → m * U ≡ g * d → Signed s m d (part⁺ (signedℤ s g)) (part⁻ (signedℤ s g)) U
 constant-signed s m d g U e = rw (signed⁺ s g, signed⁻ s g) (go s)
   where
     go : (s : Bool) → Signed s m d (cond s 0 g) (cond s g 0) U
@@ -431,7 +431,7 @@ constant-quanta f (fin s m e) ok =
     constant-signed s (m * up e) (down e) g U (eqb→eq (m * up e * U) (g * down e) ok)
 
 -- a float that is p - n quanta, and its value
-pub exactly : (s : Bool) (M d p n U : ℕ) → Signed s M d p n U → p * d + part⁻ (signed s M) * U ≡ n * d + part⁺ (signed s M) * U
+pub exactly : (s : Bool) (M d p n U : ℕ) → Signed s M d p n U → p * d + part⁻ (signedℤ s M) * U ≡ n * d + part⁺ (signedℤ s M) * U
 exactly s M d p n U h = rw (signed⁺ s M, signed⁻ s M) (go s h)
   where
     go : (s : Bool) → Signed s M d p n U → p * d + cond s M 0 * U ≡ n * d + cond s 0 M * U
@@ -448,10 +448,10 @@ constant-sound f (fin s m e) ok =
     let d = down e in
     let g = M * U / d in
     let h = constant-signed s M d g U (eqb→eq (M * U) (g * d) ok) in
-    let q = exactly s M d (part⁺ (signed s g)) (part⁻ (signed s g)) U h in
+    let q = exactly s M d (part⁺ (signedℤ s g)) (part⁻ (signedℤ s g)) U h in
     record {
       defined = down-pos e;
-      near = record { plus = part⁺ (signed s g); minus = part⁻ (signed s g); quanta = h; close = no-error _ _ d q };
+      near = record { plus = part⁺ (signedℤ s g); minus = part⁻ (signedℤ s g); quanta = h; close = no-error _ _ d q };
       lower = at-least _ _ _ _ q;
       upper = at-most _ _ _ _ q;
     }

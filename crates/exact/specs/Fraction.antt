@@ -15,12 +15,16 @@ pub record Fraction : Type 0 where
 abbrev pub Defined : Fraction → Type 0
 Defined a = 0 < a .den
 
--- A quotient of two natural numbers, a whole number, and a power of two.
+-- A quotient of two natural numbers, a whole number, a signed quotient, and a power of two.
 abbrev pub ratio : ℕ → ℕ → Fraction
 ratio n d = record { num = pos n; den = d }
 
 abbrev pub whole : ℤ → Fraction
 whole z = record { num = z; den = 1 }
+
+-- negative where s is true
+abbrev pub signed : Bool → ℕ → ℕ → Fraction
+signed s n d = record { num = cond s (negℤ (pos n)) (pos n); den = d }
 
 abbrev pub powerOfTwo : ℤ → Fraction
 powerOfTwo z = ratio (up z) (down z)

@@ -56,7 +56,7 @@ sineOfCycleℚ c = signℚ c *ℚ sineOfQuarterℚ (quarterℚ (halfℚ c))
 unfoldable pub sinTurnsℚ : Fraction → Fraction
 sinTurnsℚ p = sineOfCycleℚ (fractℚ p)
 
--- ---- 2 ^ s: 2 to the floor of s, times the series of the rest through order 20
+-- ---- 2 ^ s: the series through order 20 of what s has above its floor, times 2 to its floor
 -- (ln 2) ^ n / n!, with ln 2 = 0.69314718055994530942
 unfoldable pub exp2Term : ℕ → Fraction
 unfolding factorial
@@ -67,7 +67,7 @@ unfolding terms exp2Term
 exp2Terms = terms exp2Term 0 21
 
 unfoldable pub exp2ℚ : Fraction → Fraction
-exp2ℚ s = powerOfTwo (floorℚ s) *ℚ hornerℚ exp2Terms (fractℚ s)
+exp2ℚ s = hornerℚ exp2Terms (fractℚ s) *ℚ powerOfTwo (floorℚ s)
 
 -- ---- log2 of 2 ^ e * m, m from 1 to below 2: e, and the series of m through u ^ 31
 -- 1 / (2 n + 1)
