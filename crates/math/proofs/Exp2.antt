@@ -16,9 +16,10 @@ use Rattle.exact.specs.Value.{value, Equal, Within, RelativelyWithin}
 use Rattle.exact.specs.Binary32.{_⊖_, _⊗_, bits}
 use Rattle.exact.proofs.Parts.{part⁺, part⁻, num⁺, num⁻, sum-parts}
 use Rattle.exact.proofs.Order.{≤ℚ-parts, parts-≤ℚ, ltℚ-parts, ≤ℚ-trans, equal-refl, lt-value, within-loosen}
-use Rattle.exact.proofs.Quanta.{defined-of-finite, finite-of-defined}
+use Rattle.exact.proofs.Defined.{value-defined}
 use Rattle.exact.proofs.Floor.{floor-below, floor-above}
-use Rattle.exact.proofs.Inequality.{scale-le, grows, le-abs, lt-le, lower-whole, upper-next}
+use Rattle.exact.proofs.Inequality.{scale-le, grows, le-abs, lt-le}
+use Rattle.exact.proofs.Bounds.{lower-whole, upper-next}
 use Rattle.exact.proofs.Analyser.{Bound, Expr, var, approx, minus, times, Approximates, analyse, plain, certified, evalFloat, evalExact}
 use Rattle.exact.proofs.Soundness.{plainly}
 use Rattle.exact.proofs.Inputs.{one, one-input, exact-input, covers, concludes, concluded, bounded}
@@ -94,7 +95,7 @@ power x z f t l h i j =
     let A = value x in
     let b = between z in
     let U = 2 ^ 149 in
-    let in₁ = exact-input binary32 x A (z *ℤ pos U) ((z +ℤ pos 1) *ℤ pos U) f (equal-refl (defined-of-finite x t)) (lower-whole U A z l) (upper-next U A z h) in
+    let in₁ = exact-input binary32 x A (z *ℤ pos U) ((z +ℤ pos 1) *ℤ pos U) f (equal-refl (value-defined x .1 t)) (lower-whole U A z l) (upper-next U A z h) in
     let p = x ⊖ ofInt binary32 z in
     let P = A -ℚ whole z in
     let in₂ : Approximates binary32 p P partBound = concluded binary32 (one x) (one A) (one b) (one-input binary32 x A b in₁) (part z) (plainly binary32 (one A) (part z) tt) partBound (eachWhole part-test 24 z part-ok i j) in
@@ -115,7 +116,7 @@ power x z f t l h i j =
 
     scaled-near : (q : Float) (Q : Fraction) → Approximates binary32 q Q seriesBound → Within (value (q ⊗ fin false 1 z)) (Q *ℚ powerOfTwo z) (ratio 11 (2 ^ 24) *ℚ powerOfTwo z)
     scaled-near q Q k =
-        bounded binary32 (one q) (one Q) (one seriesBound) (one-input binary32 q Q seriesBound k) (scaled z) (plainly binary32 (one Q) (scaled z) tt) (11 * up z) (2 ^ 24 * down z) (eachWhole scaled-test 24 z scaled-ok i j)
+        bounded binary32 (one q) (one Q) (one seriesBound) (one-input binary32 q Q seriesBound k) (scaled z) (plainly binary32 (one Q) (scaled z) tt) (11 * up z) (2 ^ 24 * down z) (mul-pos (pow-pos 24) (down-pos z)) (eachWhole scaled-test 24 z scaled-ok i j)
 
 -- ---- the floor of an s from -24 to 24
 floor-range : (a : Fraction) (z : ℤ) → Defined a → whole (negsuc 23) ≤ℚ a → a ≤ℚ whole (pos 24) → whole z ≤ℚ a → T (ltℚ a (whole z +ℚ whole (pos 1))) → (part⁺ z ≤ 24) × (part⁻ z ≤ 24)
@@ -141,12 +142,12 @@ unclamped x t lo hi = go (lt x (bits 0xc2fc_0000)) (lt (bits 0x42fe_0000) x) low
     low : T (lt x (bits 0xc2fc_0000)) → ⊥
     low h =
         let k = lt-le (value x) (value (bits 0xc2fc_0000)) (subst T (lt-value x (bits 0xc2fc_0000) t tt) h) in
-        ≤ℚ-trans (whole (negsuc 23)) (value x) (value (bits 0xc2fc_0000)) (defined-of-finite x t) lo k .le
+        ≤ℚ-trans (whole (negsuc 23)) (value x) (value (bits 0xc2fc_0000)) (value-defined x .1 t) lo k .le
 
     high : T (lt (bits 0x42fe_0000) x) → ⊥
     high h =
         let k = lt-le (value (bits 0x42fe_0000)) (value x) (subst T (lt-value (bits 0x42fe_0000) x tt t) h) in
-        ≤ℚ-trans (value (bits 0x42fe_0000)) (value x) (whole (pos 24)) (defined-of-finite x t) k hi .le
+        ≤ℚ-trans (value (bits 0x42fe_0000)) (value x) (whole (pos 24)) (value-defined x .1 t) k hi .le
 
     go : (a b : Bool) → (T a → ⊥) → (T b → ⊥) → cond a (bits 0xc2fc_0000) (cond b (bits 0x42fe_0000) x) ≡ x
     go true b h k = absurd (h tt)
@@ -157,10 +158,7 @@ unclamped x t lo hi = go (lt x (bits 0xc2fc_0000)) (lt (bits 0x42fe_0000) x) low
 finite-case : (x : Float) (A : Fraction) (z : ℤ) → Power x A z → RelativelyWithin (value (horner exp2Coefficients (x ⊖ ofInt binary32 z) ⊗ fin false 1 z)) (hornerℚ exp2Terms (A -ℚ whole z) *ℚ powerOfTwo z) (ratio 11 (2 ^ 24))
 finite-case x A z h =
     let B = hornerℚ exp2Terms (A -ℚ whole z) *ℚ powerOfTwo z in
-    within-loosen (power-pos z) (h .near) (scale-le 11 (2 ^ 24) (powerOfTwo z) (absℚ B) (≤ℚ-trans (powerOfTwo z) B (absℚ B) (h .near .right) (h .least) (le-abs B)))
-  where
-    power-pos : (z : ℤ) → Defined (ratio 11 (2 ^ 24) *ℚ powerOfTwo z)
-    power-pos z = mul-pos (pow-pos 24) (down-pos z)
+    within-loosen (h .near) (mul-pos (pow-pos 24) (h .near .right)) (scale-le 11 (2 ^ 24) (powerOfTwo z) (absℚ B) (≤ℚ-trans (powerOfTwo z) B (absℚ B) (h .near .right) (h .least) (le-abs B)))
 
 within-range : (x : Float) → T (fits binary32 x) → T (finite x) → whole (negsuc 23) ≤ℚ value x → value x ≤ℚ whole (pos 24) → RelativelyWithin (value (exp2Within x)) (exp2ℚ (value x)) (ratio 11 (2 ^ 24))
 unfolding exp2Within exp2ℚ fractOf floorOf scaleOf
@@ -169,7 +167,7 @@ within-range (inf s) f t lo hi = absurd t
 within-range (fin s m e) f t lo hi =
     let x = fin s m e in
     let a = value x in
-    let d = defined-of-finite x t in
+    let d = value-defined x .1 t in
     let z = floorℚ a in
     let k = floor-above a d in
     let r = floor-range a z d lo hi (floor-below a d) k in

@@ -13,7 +13,7 @@ use Rattle.exact.specs.Value.{value, Equal}
 use Rattle.exact.specs.Binary32.{_⊖_, quarter₃₂, half₃₂, one₃₂}
 use Rattle.exact.proofs.Parts.{num⁺, num⁻, sum-parts}
 use Rattle.exact.proofs.Order.{≤ℚ-parts, parts-≤ℚ, ≤ℚ-trans, equal-refl, lt-value}
-use Rattle.exact.proofs.Quanta.{finite-of-defined}
+use Rattle.exact.proofs.Defined.{value-defined}
 use Rattle.exact.proofs.Sterbenz.{half-minus, minus-half}
 use Rattle.exact.proofs.Inequality.{minus-at-most, at-least-minus, lt-le, nlt-le, lt-equal}
 use Rattle.math.specs.Formulas.{halfOf, quarterOf, signOf}
@@ -40,7 +40,7 @@ half-fits = tt
 
 -- the float comparison is the exact one
 compared : (x y : Float) {A B : Fraction} → Equal (value x) A → Equal (value y) B → lt x y ≡ ltℚ A B
-compared x y e d = lt-value x y (finite-of-defined x (e .left)) (finite-of-defined y (d .left)) ∙ lt-equal e d
+compared x y e d = lt-value x y (value-defined x .0 (e .left)) (value-defined y .0 (d .left)) ∙ lt-equal e d
 
 -- ---- to the half turn
 to-half : (c : Float) (C : Fraction) (b : Bool) → (T b → C ≤ℚ ratio 1 2) → (T (not b) → ratio 1 2 ≤ℚ C) → Turned c C (ratio 1 1) → Turned (cond b c (c ⊖ half₃₂)) (cond b C (C -ℚ ratio 1 2)) (ratio 1 2)

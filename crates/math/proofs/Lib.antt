@@ -5,6 +5,8 @@ pub mod FloorLaws
 pub mod Fold
 pub mod Sine
 pub mod Exp2
+pub mod Bend
+pub mod Mantissa
 pub mod Log2
 pub mod Examples
 pub mod ExamplesExact

@@ -16,10 +16,11 @@ use Rattle.exact.specs.Value.{value, Equal, Within}
 use Rattle.exact.specs.Binary32.{_⊕_, _⊗_, bits, half₃₂, one₃₂}
 use Rattle.exact.proofs.Parts.{num⁺, num⁻, sum-parts}
 use Rattle.exact.proofs.Order.{≤ℚ-parts, parts-≤ℚ}
-use Rattle.exact.proofs.Quanta.{finite-of-defined, defined-of-finite}
+use Rattle.exact.proofs.Defined.{value-defined}
 use Rattle.exact.proofs.Floor.{floor-below, floor-above}
 use Rattle.exact.proofs.Fract.{fract-exact, fract-exact-negative}
-use Rattle.exact.proofs.Inequality.{minus-at-most, at-least-minus, lt-le, lower-at, upper-at}
+use Rattle.exact.proofs.Inequality.{minus-at-most, at-least-minus, lt-le}
+use Rattle.exact.proofs.Bounds.{lower-at, upper-at}
 use Rattle.exact.proofs.Analyser.{Bound, Expr, var, constant, approx, plus, times, Approximates, plain, evalFloat, evalExact, analyse}
 use Rattle.exact.proofs.Soundness.{plainly}
 use Rattle.exact.proofs.Inputs.{one, one-input, exact-input, covers, concludes, concluded, result}
@@ -96,7 +97,7 @@ pub data Phase (x : Float) : Type 0 where
 
 pub phase-finite : (x : Float) → Phase x → T (finite x)
 phase-finite x (from-zero t h) = t
-phase-finite x (walked k K l e) = finite-of-defined x (e .left)
+phase-finite x (walked k K l e) = value-defined x .0 (e .left)
 
 -- of any number it lies from 0 to 1
 fract-above : (a : Fraction) → Defined a → ratio 0 1 ≤ℚ fractℚ a
@@ -124,7 +125,7 @@ fract-below a d = minus-at-most a (whole (floorℚ a)) (ratio 1 1) (lit< tt) (tu
 pub fract-value : (x : Float) → T (fits binary32 x) → Phase x → Equal (value (fractOf x)) (fractℚ (value x))
 unfolding fractOf
 fract-value x f (from-zero t h) = fract-exact binary32 x (floorOf x) f t h (floor-value x f t)
-fract-value x f (walked k K l e) = fract-exact-negative binary32 x (floorOf x) k K l e (floor-value x f (finite-of-defined x (e .left)))
+fract-value x f (walked k K l e) = fract-exact-negative binary32 x (floorOf x) k K l e (floor-value x f (value-defined x .0 (e .left)))
 
 fract-fits : (x : Float) → T (fits binary32 (fractOf x))
 unfolding fractOf
@@ -132,7 +133,7 @@ fract-fits x = sub-fits binary32 x (floorOf x)
 
 fract-turned : (x : Float) → T (fits binary32 x) → Phase x → Turned (fractOf x) (fractℚ (value x)) (ratio 1 1)
 fract-turned x f p =
-    let d = defined-of-finite x (phase-finite x p) in
+    let d = value-defined x .1 (phase-finite x p) in
     record { holds = fract-fits x; is = fract-value x f p; above = fract-above (value x) d; below = fract-below (value x) d }
 
 -- ---- THE THEOREM
@@ -142,4 +143,4 @@ sine-height x f p = turn-height (fractOf x) (fractℚ (value x)) (fract-turned x
 
 pub sine-height-within : (x : Float) → T (fits binary32 x) → Phase x → Within (value (half₃₂ ⊕ half₃₂ ⊗ sinTurnsOf x)) (ratio 1 2 +ℚ ratio 1 2 *ℚ sinTurnsℚ (value x)) (ratio 1 262144)
 unfolding heightBound
-sine-height-within x f p = result binary32 _ _ heightBound 1 262144 (sine-height x f p) (lit≤ tt)
+sine-height-within x f p = result binary32 _ _ heightBound 1 262144 (lit< tt) (sine-height x f p) (lit≤ tt)
