@@ -10,7 +10,7 @@ use Rattle.exact.specs.Fraction.{Fraction, Defined, ratio, absℚ, _+ℚ
 use Rattle.exact.specs.Value.{Equal}
 use Rattle.exact.proofs.Close.{ring}
 use Rattle.exact.proofs.Parts.{num⁺, num⁻, mul⁺, mul⁻, abs-parts, sum-parts, difference-parts}
-use Rattle.exact.proofs.Order.{≤ℚ-parts, parts-≤ℚ, ltℚ-parts, nltℚ-parts, ≤ℚ-trans, equal-at-most, equal-sym}
+use Rattle.exact.proofs.Order.{cross, ≤ℚ-parts, parts-≤ℚ, ltℚ-parts, nltℚ-parts, ≤ℚ-trans, equal-at-most, equal-sym}
 
 -- ---- a ≤ c + b gives a - b ≤ c, and c + b ≤ a gives c ≤ a - b
 pub minus-at-most : (a b c : Fraction) → Defined b → a ≤ℚ c +ℚ b → a -ℚ b ≤ℚ c
@@ -74,6 +74,13 @@ lt-le a b t = parts-≤ℚ a b (le-of-lt (ltℚ-parts a b t))
 
 pub nlt-le : (a b : Fraction) → T (not (ltℚ a b)) → b ≤ℚ a
 nlt-le a b t = parts-≤ℚ b a (nltℚ-parts a b t)
+
+pub parts-ltℚ : (a b : Fraction) → cross a b < cross b a → T (ltℚ a b)
+parts-ltℚ a b h = go (ltℚ a b) (nltℚ-parts a b)
+  where
+    go : (x : Bool) → (T (not x) → cross b a ≤ cross a b) → T x
+    go true k = tt
+    go false k = absurd (not-le-of-lt h (k tt))
 
 lt-carries : {a a' b b' : Fraction} → Equal a a' → Equal b b' → T (ltℚ a b) → T (ltℚ a' b')
 lt-carries {a} {a'} {b} {b'} e d t = go (ltℚ a' b') (nlt-le a' b')

@@ -1,12 +1,23 @@
--- Theorems about the functions of math.rs: how near each is to its exact series; and the definitions held against outside numbers.
-pub mod Polynomial
-pub mod Every
+-- The functions of math.rs: what their code's proofs need, how near each is to its exact series, and the definitions held against outside numbers.
+-- for the code
+pub mod Nan
+pub mod Size
+pub mod Whole
+pub mod NearWhole
+pub mod FloorExact
+pub mod FloorCases
+pub mod Scale
+pub mod Logarithm
+-- the theorems
 pub mod FloorLaws
+pub mod SeriesExpr
+pub mod Every
 pub mod Fold
-pub mod Sine
-pub mod Exp2
+pub mod SineError
+pub mod Exp2Error
 pub mod Bend
 pub mod Mantissa
-pub mod Log2
+pub mod Log2Error
+-- the definitions against outside numbers
 pub mod Examples
 pub mod ExamplesExact

@@ -27,7 +27,7 @@ use Rattle.exact.proofs.Inputs.{one, one-input, exact-input, covers, concludes,
 use Rattle.math.specs.Horner.{horner, hornerℚ}
 use Rattle.math.specs.Formulas.{floorOf, fractOf, sineCoefficients, sineOfAngle, sineOfQuarter, sineOfCycle, sinTurnsOf, halfOf, quarterOf, signOf}
 use Rattle.math.specs.Series.{turn, terms, factorial, sineTerm, sineTerms, sineOfAngleℚ, sineOfQuarterℚ, sineOfCycleℚ, sinTurnsℚ, fractℚ, halfℚ, quarterℚ, signℚ}
-use Rattle.math.proofs.Polynomial.{polynomial, exactly, nearestTo}
+use Rattle.math.proofs.SeriesExpr.{polynomial, exactly, nearestTo}
 use Rattle.math.proofs.FloorLaws.{floor-value}
 use Rattle.math.proofs.Fold.{Turned, half-turn, quarter-turn, half-sign}
 

@@ -26,7 +26,7 @@ use Rattle.exact.proofs.Inputs.{one, one-input, exact-input, covers, concludes,
 use Rattle.math.specs.Horner.{horner, hornerℚ}
 use Rattle.math.specs.Formulas.{clampOf, floorOf, fractOf, scaleOf, exp2Coefficients, exp2Within, exp2Of}
 use Rattle.math.specs.Series.{terms, factorial, exp2Term, exp2Terms, exp2ℚ, fractℚ}
-use Rattle.math.proofs.Polynomial.{polynomial, exactly, nearestTo}
+use Rattle.math.proofs.SeriesExpr.{polynomial, exactly, nearestTo}
 use Rattle.math.proofs.Every.{every, everyWhole, eachWhole}
 
 -- ---- THE THREE STAGES

@@ -1,0 +1,21 @@
+-- A test for a NaN by `x != x`. Assumes nothing.
+use mathlib.Core.Path.{_≡_, refl, sym, _∙_, subst}
+use mathlib.Core.Bool.{Bool, true, false, not}
+use Prim.Native.Nat.{_*_}
+use lib.Dec.{T}
+use lib.Ieee.{Float, nan, inf, fin, up, down, ne, isNan}
+use borrow.Author.Tests.{eq-eqb}
+
+ne-self : (x : Float) → ne x x ≡ isNan x
+unfolding ne isNan
+ne-self nan = refl
+ne-self (inf true) = refl
+ne-self (inf false) = refl
+ne-self (fin true m e) = simp (eq-eqb (m * up e * down e) (m * up e * down e) refl)
+ne-self (fin false m e) = simp (eq-eqb (m * up e * down e) (m * up e * down e) refl)
+
+pub is-nan : (b : Bool) (x : Float) → ne x x ≡ b → isNan x ≡ b
+is-nan b x h = sym (ne-self x) ∙ h
+
+pub not-nan : (x : Float) → isNan x ≡ false → T (not (isNan x))
+not-nan x h = subst (λ (b : Bool). T (not b)) (sym h) tt

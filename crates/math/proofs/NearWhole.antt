@@ -1,0 +1,157 @@
+-- A WHOLE NUMBER LESS THAN 1 AWAY FROM x: 2 ^ 23 added and taken off again, for an x between -2 ^ 23 and 2 ^ 23. Assumes nothing.
+use mathlib.Core.Path.{_≡_, refl, sym, ap, _∙_, subst}
+use mathlib.Core.Bool.{Bool, true, false, cond}
+use Prim.Native.Nat.{ℕ, zero, suc, _+_, _-_, _*_, _/_, _%_, _^_, _≤_, _<_, compare, Ordering, Ordering·lt, Ordering·eq, Ordering·gt}
+use native.Mathlib.Nat.{mul-one, add-mul, mul-assoc, mul-right-comm, mul-le-mul-right, mul-lt-mul-of-pos-right, eq-of-mul-eq-mul-right, le-trans, lt-of-lt-of-le, lt-of-le-of-lt, lt-of-not-le, not-le-of-lt, mul-pos, div-add-mod', mod-lt, le-of-eq, le-of-lt, add-zero, zero-lt-suc, le-div-iff-mul-le, div-lt-iff-lt-mul}
+use native.Mathlib.Numerals.{add-one}
+use native.Mathlib.Omega.{arith}
+use lib.Dec.{isLe, isEq, lit<}
+use lib.IntN.{ℤ, pos, negsuc, negℤ, subℕ}
+use lib.Pow.{pow-pos, pow-mono}
+use lib.Ieee.{Float, nan, inf, fin, binary32, up, down, size, nearest, round, units, ofInt, ofBits, neg, add, sub, sum}
+use lib.Ieee.Digits.{size-lt, size-le}
+use lib.Ieee.Fits.{down-pos, core, round-is, nearest-le}
+use lib.Ieee.Exact.{HasValue, units-val}
+use lib.Ieee.Nearest.{closest, closest-same, nearest-ge}
+use borrow.Author.Tests.{leb-false, eqb-true, lt-ltb, le-ltb}
+use Rattle.exact.specs.Binary32.{_⊕_, _⊖_, bits}
+use Rattle.math.proofs.Whole.{sum-whole}
+
+-- ---- the nearest whole number to a / d
+abbrev Near : ℕ → ℕ → ℕ → Type 0
+Near a d q = (a < q * d + d) × (q * d < a + d)
+
+-- q whole and r over: q is near, and so is the next where r is above 0
+same : (a d q r : ℕ) → q * d + r ≡ a → r < d → Near a d q
+same a d q r e h = (omega arith, omega arith)
+
+next : (a d q r : ℕ) → q * d + r ≡ a → r < d → 0 < r → Near a d (suc q)
+next a d q r e h z = (omega arith, omega arith)
+
+half : (r d : ℕ) → 0 < d → d ≤ r * 2 → 0 < r
+half r d h k = omega arith
+
+closest-near : (a d : ℕ) → 0 < d → Near a d (closest a d)
+closest-near a d h = go (compare (a % d * 2) d) refl
+  where
+    e : a / d * d + a % d ≡ a
+    e = div-add-mod' a d
+
+    l : a % d < d
+    l = mod-lt a h
+
+    tie : (k : ℕ) → k < 2 → 0 < a % d → Near a d (a / d + k)
+    tie zero s z = subst (Near a d) (sym (add-zero (a / d))) (same a d (a / d) (a % d) e l)
+    tie (suc zero) s z = subst (Near a d) (sym (add-one (a / d))) (next a d (a / d) (a % d) e l z)
+    tie (suc (suc k)) s z = absurd (omega arith)
+
+    go : (o : Ordering) → compare (a % d * 2) d ≡ o → Near a d (nearest (a / d) o)
+    go Ordering·lt c = same a d (a / d) (a % d) e l
+    go Ordering·eq c = tie (a / d % 2) (mod-lt (a / d) (zero-lt-suc 1)) (half (a % d) d h (le-of-eq (sym (eqb-true (a % d * 2) d (ap isEq c)))))
+    go Ordering·gt c = next a d (a / d) (a % d) e l (half (a % d) d h (le-of-lt (leb-false (a % d * 2) d (ap isLe c))))
+
+-- ---- a / d from 2 ^ 23 to 2 ^ 24 is rounded to its nearest whole number: p is the weight of the 149 digits that are dropped
+module _ (a d p : ℕ) (h : 0 < p) where
+  reaches : 8388608 * d ≤ a → 8388608 * p * d ≤ a * p
+  reaches l = le-trans (le-of-eq (mul-right-comm 8388608 p d)) (mul-le-mul-right p l)
+
+  stays : a < 16777216 * d → a * p < 16777216 * p * d
+  stays l = lt-of-lt-of-le (mul-lt-mul-of-pos-right l h) (le-of-eq (mul-right-comm 16777216 d p))
+
+-- a common factor of a value's fraction is left out
+cancel : (x : Float) (s : Bool) (q p : ℕ) → 0 < p → HasValue x s (q * p) p → HasValue x s q 1
+cancel nan s q p h v = v
+cancel (inf t) s q p h v = v
+cancel (fin t m e) s q p h v = (v .0, mul-one (m * up e) ∙ eq-of-mul-eq-mul-right p h (m * up e) (q * down e) (v .1 ∙ mul-right-comm q p (down e)))
+
+module _ (a d : ℕ) (h : 0 < d) (lo : 8388608 * d ≤ a) (hi : a < 16777216 * d) where
+  dropped : size (a * 2 ^ 149 / d) - 24 ≡ 149
+  dropped = go (size w) (size-le w 173 (div-lt-iff-lt-mul h .1 (stays a d (2 ^ 149) (pow-pos 149) hi))) (lt-of-not-le above)
+    where
+      w : ℕ
+      w = a * 2 ^ 149 / d
+
+      above : size w ≤ 172 → ⊥
+      above k = not-le-of-lt (lt-of-lt-of-le (size-lt w) (pow-mono k)) (le-div-iff-mul-le h .1 (reaches a d (2 ^ 149) (pow-pos 149) lo))
+
+      go : (z : ℕ) → z ≤ 173 → 172 < z → z - 24 ≡ 149
+      go z k l = omega arith
+
+  rounded : (s : Bool) → round binary32 s a d ≡ units binary32 s (closest a d) 149
+  rounded s =
+      round-is binary32 s a d
+      ∙ ap (λ (k : ℕ). core binary32 s (a * 2 ^ 149) d k) dropped
+      ∙ ap (λ (q : ℕ). units binary32 s q 149) (closest-same (a * 2 ^ 149) (d * 2 ^ 149) a d (mul-pos h (pow-pos 149)) h (mul-right-comm a (2 ^ 149) d ∙ mul-assoc a d (2 ^ 149)))
+
+  closest-le : closest a d ≤ 16777216
+  closest-le = le-trans (nearest-le (a / d) (compare (a % d * 2) d)) (div-lt-iff-lt-mul h .1 hi)
+
+  closest-ge : 8388608 ≤ closest a d
+  closest-ge = le-trans (le-div-iff-mul-le h .1 lo) (nearest-ge (a / d) (compare (a % d * 2) d))
+
+  rounded-value : (s : Bool) → HasValue (round binary32 s a d) s (closest a d) 1
+  rounded-value s =
+      cancel (round binary32 s a d) s (closest a d) (2 ^ 149) (pow-pos 149)
+      (subst (λ (y : Float). HasValue y s (closest a d * 2 ^ 149) (2 ^ 149)) (sym (rounded s))
+      (units-val binary32 s (closest a d) 149 (lt-of-le-of-lt (mul-le-mul-right (2 ^ 149) closest-le) (lit< tt))))
+
+-- ---- 2 ^ 23 taken off again: y is the whole number q, less than 1 away from n / d, with the sign s for both
+pub record Nearby (s : Bool) (n d q : ℕ) (y : Float) : Type 0 where
+  pub small : q ≤ 8388608
+  pub over : n < q * d + d
+  pub under : q * d < n + d
+  pub is : y ≡ ofInt binary32 (cond s (negℤ (pos q)) (pos q))
+
+abbrev pub step : Float
+step = bits 0x4b00_0000
+
+-- w - (q + 1), not above 0
+minus-is : (w q : ℕ) → w ≤ suc q → subℕ w (suc q) ≡ negℤ (pos (suc q - w))
+minus-is w q h = go (suc q - w) refl
+  where
+    go : (r : ℕ) → suc q - w ≡ r → subℕ w (suc q) ≡ negℤ (pos r)
+    go zero e =
+        let l : suc q ≤ w = omega arith in
+        let z : w - suc q ≡ 0 = omega arith in
+        simp (le-ltb w (suc q) l, z)
+    go (suc r) e =
+        let l : w < suc q = omega arith in
+        let z : suc q - suc w ≡ r = omega arith in
+        simp (lt-ltb w (suc q) l, z)
+
+taken : (s : Bool) (x : Float) (Q : ℕ) → 8388608 ≤ Q → HasValue x s Q 1 → cond s (x ⊕ step) (x ⊖ step) ≡ ofInt binary32 (cond s (negℤ (pos (Q - 8388608))) (pos (Q - 8388608)))
+unfolding sub neg ofBits
+taken false x Q h v = sum-whole x (neg step) (pos Q) (negsuc 8388607) v (refl, refl) ∙ simp (le-ltb Q 8388608 h)
+taken true x zero h v = absurd (omega arith)
+taken true x (suc Q) h v = sum-whole x step (negsuc Q) (pos 8388608) v (refl, refl) ∙ ap (λ (z : ℤ). ofInt binary32 z) (minus-is 8388608 Q h)
+
+moved : (n d q r : ℕ) → q ≡ r + 8388608 → Near (n + 8388608 * d) d q → Near n d r
+moved n d q r e k =
+    let m : q * d ≡ r * d + 8388608 * d = ap (λ (z : ℕ). z * d) e ∙ add-mul r 8388608 d in
+    (omega arith, omega arith)
+
+-- x is the sum with 2 ^ 23 of a number of the size n / d
+from-sum : (s : Bool) (n d : ℕ) (x : Float) → 0 < d → n < 8388608 * d → x ≡ round binary32 s (n + 8388608 * d) d → (q : ℕ) × Nearby s n d q (cond s (x ⊕ step) (x ⊖ step))
+from-sum s n d x h l e =
+    let a = n + 8388608 * d in
+    let Q = closest a d in
+    let lo : 8388608 * d ≤ a = omega arith in
+    let hi : a < 16777216 * d = omega arith in
+    let ge = closest-ge a d h lo hi in
+    let k = moved n d Q (Q - 8388608) (omega arith) (closest-near a d h) in (
+      Q - 8388608,
+      record {
+        small = omega (arith, closest-le a d h lo hi);
+        over = k .0;
+        under = k .1;
+        is = taken s x Q ge (subst (λ (y : Float). HasValue y s Q 1) (sym e) (rounded-value a d h lo hi s));
+      },
+    )
+
+pub near-positive : (m : ℕ) (e : ℤ) → m * up e < 8388608 * down e → (q : ℕ) × Nearby false (m * up e) (down e) q (fin false m e ⊕ step ⊖ step)
+unfolding add sum ofBits
+near-positive m e h = from-sum false (m * up e) (down e) (fin false m e ⊕ step) (down-pos e) h (simp mul-one)
+
+pub near-negative : (m : ℕ) (e : ℤ) → m * up e < 8388608 * down e → (q : ℕ) × Nearby true (m * up e) (down e) q (fin true m e ⊖ step ⊕ step)
+unfolding sub add neg sum ofBits
+near-negative m e h = from-sum true (m * up e) (down e) (fin true m e ⊖ step) (down-pos e) h (simp mul-one)

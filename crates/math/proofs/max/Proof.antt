@@ -1,0 +1,33 @@
+-- `max` is `maxOf`: each return rewrites with the tests that led to it. Assumes nothing.
+use mathlib.Core.Bool.{true, false}
+use Rattle.math.specs.Formulas.{maxOf}
+use Rattle.math.proofs.Nan.{is-nan}
+use borrow.Author.Needs.{needs}
+use Rattle.math.proofs.max.Statement.{statement}
+use Rattle.math.proofs.max.Tie as tie
+
+returns : tie.Need-returns
+unfolding maxOf
+returns c = simp (is-nan true _ (c .if1 .taken))
+
+returns-2 : tie.Need-returns-2
+unfolding maxOf
+returns-2 c = simp (is-nan false _ (c .before .if1 .left), is-nan true _ (c .if2 .taken))
+
+returns-3 : tie.Need-returns-3
+unfolding maxOf
+returns-3 c = simp (is-nan false _ (c .before .before .if1 .left), is-nan false _ (c .before .if2 .left), c .if3 .taken)
+
+returns-4 : tie.Need-returns-4
+unfolding maxOf
+returns-4 c = simp (is-nan false _ (c .before .before .before .if1 .left), is-nan false _ (c .before .before .if2 .left), c .before .if3 .left, c .if4 .taken)
+
+unsigned-zero-requires : tie.Need-unsigned-zero-requires
+unsigned-zero-requires c κs = search needs
+
+returns-5 : tie.Need-returns-5
+unfolding maxOf
+returns-5 c = simp (is-nan false _ (c .before .before .before .before .if1 .left), is-nan false _ (c .before .before .before .if2 .left), c .before .before .if3 .left, c .before .if4 .left, c .unsigned-zero .ensures)
+
+pub max-spec : {M : Type 1} → statement M
+max-spec = tie.close (tie.spec returns returns-2 returns-3 returns-4 unsigned-zero-requires returns-5)
