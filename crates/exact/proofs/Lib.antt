@@ -22,3 +22,4 @@ pub mod Clamp
 pub mod Soundness
 pub mod Bounds
 pub mod Inputs
+pub mod Demonstration

@@ -2,7 +2,7 @@
 -- What has no value is a fraction over 0: a quotient by zero, and the value of a NaN or of an infinity (Value.antt).
 -- Every operation keeps that: its result is defined only where its operands are (proofs/Defined.antt). Definitions only.
 use mathlib.Core.Bool.{Bool, cond}
-use Prim.Native.Nat.{ℕ, zero, suc, _*_, _/_, _<_, min}
+use Prim.Native.Nat.{ℕ, zero, suc, _*_, _/_, _<_}
 use lib.IntN.{ℤ, pos, negsuc, negℤ, natAbs, _+ℤ_, _*ℤ_}
 use lib.Signed.{ltZ, _≤ℤ_}
 use lib.Ieee.{up, down}

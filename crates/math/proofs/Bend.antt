@@ -12,7 +12,7 @@ use Rattle.math.specs.Formulas.{clampOf, floorOf, fractOf, scaleOf, exp2
 use Rattle.math.proofs.Every.{every, each}
 
 -- 128 and 64, as floats
-abbrev bend : ℕ → Float
+abbrev pub bend : ℕ → Float
 bend c = exp2Of ((ofInt binary32 (pos c) ⊖ bits 0x4300_0000) ⊘ bits 0x4280_0000)
 
 abbrev pub four₃₂ : Float

@@ -12,6 +12,7 @@ pub mod Logarithm
 pub mod FloorLaws
 pub mod SeriesExpr
 pub mod Every
+pub mod Phase
 pub mod Fold
 pub mod SineError
 pub mod Exp2Error

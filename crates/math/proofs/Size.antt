@@ -11,7 +11,7 @@ use lib.Ieee.Bits.{ofBits-fits}
 use lib.Ieee.Back.{whole-unique}
 use borrow.Author.Tests.{ltb-true, ltb-false, eq-eqb}
 use Rattle.exact.specs.Binary32.{zero₃₂}
-use Rattle.math.specs.Formulas.{even, absOf}
+use Rattle.math.specs.Formulas.{unsignedZero, absOf}
 
 -- ---- a finite x against zero: n / d is its size
 none-below : (n d : ℕ) → n * 1 < 0 * 1 * d → ⊥
@@ -61,7 +61,7 @@ positive (fin true m e) h k =
     absurd (true≢false (sym (level-zero (m * up e) (down e) z) ∙ k))
 positive (fin false m e) h k = refl
 
-pub not-negative : (x : Float) → T (fits binary32 x) → lt x zero₃₂ ≡ false → even x ≡ absOf x
+pub not-negative : (x : Float) → T (fits binary32 x) → lt x zero₃₂ ≡ false → unsignedZero x ≡ absOf x
 not-negative x f h = go (eq x zero₃₂) refl
   where
     go : (t : Bool) → eq x zero₃₂ ≡ t → cond t zero₃₂ x ≡ absOf x

@@ -1,5 +1,5 @@
 -- THE FUNCTIONS OF math.rs IN BINARY32: docs/SPECIFICATION.md, "Functions". Each operation is rounded once, in the order written. Definitions only.
-use mathlib.Core.Bool.{Bool, false, cond}
+use mathlib.Core.Bool.{false, cond}
 use mathlib.Core.List.{List, [], _∷_}
 use Prim.Native.Nat.{ℕ, _+_, _/_, _%_}
 use lib.IntN.{pos, _-ℤ_}
@@ -11,15 +11,15 @@ use Rattle.math.specs.Horner.{horner}
 
 -- ---- the smaller, the larger, a clamp, the size
 -- Of two equal numbers: that number, and +0 for two zeros of any signs.
-abbrev pub even : Float → Float
-even x = cond (eq x zero₃₂) zero₃₂ x
+abbrev pub unsignedZero : Float → Float
+unsignedZero x = cond (eq x zero₃₂) zero₃₂ x
 
 -- Where one of the two is a NaN it is the other.
 unfoldable pub minOf : Float → Float → Float
-minOf x y = cond (isNan x) y (cond (isNan y) x (cond (lt x y) x (cond (lt y x) y (even x))))
+minOf x y = cond (isNan x) y (cond (isNan y) x (cond (lt x y) x (cond (lt y x) y (unsignedZero x))))
 
 unfoldable pub maxOf : Float → Float → Float
-maxOf x y = cond (isNan x) y (cond (isNan y) x (cond (lt y x) x (cond (lt x y) y (even x))))
+maxOf x y = cond (isNan x) y (cond (isNan y) x (cond (lt y x) x (cond (lt x y) y (unsignedZero x))))
 
 -- x, or the end that it lies beyond: a NaN stays a NaN, and -0 stays -0 between 0 and 1.
 unfoldable pub clampOf : Float → Float → Float → Float

@@ -5,7 +5,7 @@ ghost use mathlib.Core.Bool.{cond};
 ghost use lib.Ieee.{lt};
 ghost use Rattle.exact.specs.Binary32.{_⊕_, _⊖_, bits, zero₃₂};
 ghost use Rattle.math.specs.Horner.{horner};
-ghost use Rattle.math.specs.Formulas.{even, minOf, maxOf, clampOf, absOf, floorOf, fractOf, exp2Coefficients, exp2Of, log2Mantissa, log2Of, halfOf, quarterOf, signOf, sineOfQuarter, sinTurnsOf};
+ghost use Rattle.math.specs.Formulas.{unsignedZero, minOf, maxOf, clampOf, absOf, floorOf, fractOf, exp2Coefficients, exp2Of, log2Mantissa, log2Of, halfOf, quarterOf, signOf, sineOfQuarter, sinTurnsOf};
 
 // From here on an f32 has no fraction: 2 to the power 23.
 const WHOLE: f32 = 8388608.0;
@@ -33,7 +33,7 @@ const SINE_9: f32 = 1.0 / 362880.0;
 
 // x, and +0 for a zero of either sign.
 fn unsigned_zero(x: f32) -> f32
-    ensures { λ r. ⌜ r ≡ even x ⌝ }
+    ensures { λ r. ⌜ r ≡ unsignedZero x ⌝ }
 {
     if x == 0.0 {
         return 0.0;
