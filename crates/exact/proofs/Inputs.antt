@@ -22,7 +22,8 @@ use Rattle.exact.proofs.Quanta.{quanta-of, quanta-value, quanta-defined
 use Rattle.exact.proofs.Defined.{value-defined}
 use Rattle.exact.proofs.Analyser as A
 use Rattle.exact.proofs.Analyser.{Bound, Analysis, Expr, Approximates, Lower, Upper, Near, Facts, evalFloat, evalExact, analyse, certified, constantOf}
-use Rattle.exact.proofs.Soundness.{constant-sound, sound, plainly}
+use Rattle.exact.proofs.StepLeaves.{constant-sound}
+use Rattle.exact.proofs.Soundness.{sound, plainly}
 
 -- ---- A RESULT: |x - A| ≤ r / s
 pub result : (f : Format) (x : Float) (A : Fraction) (b : Bound) (r s : ℕ) → 0 < s → Approximates f x A b → b .err * s ≤ r * 2 ^ low f → Within (value x) A (ratio r s)

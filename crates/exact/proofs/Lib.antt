@@ -19,6 +19,9 @@ pub mod UnitRoundoff
 pub mod Propagation
 pub mod Analyser
 pub mod Clamp
+pub mod StepSums
+pub mod StepQuotients
+pub mod StepLeaves
 pub mod Soundness
 pub mod Bounds
 pub mod Inputs
