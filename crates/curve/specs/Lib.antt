@@ -1,0 +1,2 @@
+-- What every curve shares.
+pub mod Curve

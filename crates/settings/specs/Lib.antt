@@ -1,0 +1,2 @@
+-- The settings, from bytes.
+pub mod Settings

@@ -1,0 +1,132 @@
+-- THE SETTINGS, FROM BYTES: docs/SPECIFICATION.md, "Settings". Each is a function of its own bytes, in binary32, one rounding to an operation, in the
+-- order written. A byte is a natural number below 256. Definitions only.
+use mathlib.Core.Bool.{Bool, true, false, not, cond, _||_}
+use Prim.Native.Nat.{ℕ}
+use lib.Dec.{eqb, ltb}
+use lib.IntN.{pos}
+use lib.Ieee.{Float, binary32, ofInt, lt}
+use Rattle.exact.specs.Binary32.{_⊕_, _⊖_, _⊗_, _⊘_, bits, zero₃₂, half₃₂, one₃₂}
+use Rattle.math.specs.Formulas.{exp2Of}
+use Rattle.settings.specs.declared.Envelope.{Envelope}
+use Rattle.settings.specs.declared.LfoShape.{LfoShape}
+use Rattle.settings.specs.declared.LfoShape.the-variants.{Sine, Triangle, Square, RampUp, RampDown, SampleAndHold, SampleAndGlide}
+use Rattle.settings.specs.declared.Lfo.{Lfo}
+use Rattle.settings.specs.declared.Fade.{Fade}
+use Rattle.settings.specs.declared.Pass.the-variants.{Low, High}
+use Rattle.settings.specs.declared.Filter.{Filter}
+use Rattle.settings.specs.declared.Oscillator.{Oscillator}
+use Rattle.settings.specs.declared.Noise.{Noise}
+
+-- b / 255
+unfoldable pub byteOf : ℕ → Float
+byteOf b = ofInt binary32 (pos b) ⊘ bits 0x437f_0000
+
+-- ---- envelope
+-- The time that a held level is drawn for, 0.5, and the whole width: attack, decay, held, release.
+unfoldable pub totalOf : ℕ → ℕ → ℕ → Float
+totalOf a d r = byteOf a ⊕ byteOf d ⊕ half₃₂ ⊕ byteOf r
+
+-- The ends of the attack, of the decay and of the sustain.
+unfoldable pub firstOf : ℕ → ℕ → ℕ → Float
+firstOf a d r = byteOf a ⊘ totalOf a d r
+
+unfoldable pub secondOf : ℕ → ℕ → ℕ → Float
+secondOf a d r = firstOf a d r ⊕ byteOf d ⊘ totalOf a d r
+
+unfoldable pub thirdOf : ℕ → ℕ → ℕ → Float
+thirdOf a d r = secondOf a d r ⊕ half₃₂ ⊘ totalOf a d r
+
+-- The sustain's slope, from -1 to 1, and the level that it reaches from s: toward 0 below 0, toward 1 above.
+unfoldable pub slopeOf : ℕ → Float
+slopeOf c = (byteOf c ⊖ half₃₂) ⊗ bits 0x4000_0000
+
+unfoldable pub sloped : Float → Float → Float
+sloped s k = cond (lt k zero₃₂) (s ⊗ (one₃₂ ⊕ k)) (s ⊕ (one₃₂ ⊖ s) ⊗ k)
+
+unfoldable pub sustainEndOf : ℕ → ℕ → Float
+sustainEndOf s c = sloped (byteOf s) (slopeOf c)
+
+-- 2 ^ ((c - 128) / 64)
+unfoldable pub bendOf : ℕ → Float
+bendOf c = exp2Of ((ofInt binary32 (pos c) ⊖ bits 0x4300_0000) ⊘ bits 0x4280_0000)
+
+-- Attack, decay, sustain, release, then their four curves.
+unfoldable pub envelopeOf : ℕ → ℕ → ℕ → ℕ → ℕ → ℕ → ℕ → ℕ → Envelope
+envelopeOf a d s r ac dc sc rc =
+    record {
+      first = firstOf a d r;
+      second = secondOf a d r;
+      third = thirdOf a d r;
+      sustain = byteOf s;
+      «sustain_end» = sustainEndOf s sc;
+      «attack_bend» = bendOf ac;
+      «decay_bend» = bendOf dc;
+      «release_bend» = bendOf rc;
+    }
+
+-- ---- LFO
+-- 0 to 6 name a shape; 7 to 255 are Sine.
+unfoldable pub shapeOf : ℕ → LfoShape
+shapeOf b =
+    cond (eqb b 1) Triangle
+    (cond (eqb b 2) Square
+    (cond (eqb b 3) RampUp
+    (cond (eqb b 4) RampDown
+    (cond (eqb b 5) SampleAndHold
+    (cond (eqb b 6) SampleAndGlide Sine)))))
+
+-- The cycles that are drawn: 6 of the sampled shapes, 1 of all others.
+unfoldable pub turnsOf : LfoShape → Float
+turnsOf Sine = one₃₂
+turnsOf Triangle = one₃₂
+turnsOf Square = one₃₂
+turnsOf RampUp = one₃₂
+turnsOf RampDown = one₃₂
+turnsOf SampleAndHold = bits 0x40c0_0000
+turnsOf SampleAndGlide = bits 0x40c0_0000
+
+-- A switch is on where its byte is not 0.
+abbrev pub isOn : ℕ → Bool
+isOn b = not (eqb b 0)
+
+unfoldable pub lfoOf : ℕ → ℕ → ℕ → Bool → Lfo
+lfoOf shape slew sync unipolar = record { shape = shapeOf shape; turns = turnsOf (shapeOf shape); slew = byteOf slew; unipolar = unipolar; synced = isOn sync }
+
+-- ---- fade
+unfoldable pub fadeOf : ℕ → Fade
+fadeOf b = record { end = byteOf b ⊘ (byteOf b ⊕ half₃₂) }
+
+-- ---- filters
+-- Pole byte 1 is two poles, 12 decibels to an octave; all others are four, 24.
+unfoldable pub lowPassOf : ℕ → ℕ → Filter
+lowPassOf resonance pole = record { slope = cond (eqb pole 1) (bits 0x4140_0000) (bits 0x41c0_0000); resonance = byteOf resonance; span = bits 0x4040_0000; pass = Low }
+
+-- 6 decibels to an octave, and no resonance.
+unfoldable pub highPassOf : Filter
+highPassOf = record { slope = bits 0x40c0_0000; resonance = zero₃₂; span = bits 0x4040_0000; pass = High }
+
+-- ---- oscillators
+-- The PWM source is Manual at 0 and from 6 on.
+abbrev pub isManual : ℕ → Bool
+isManual source = eqb source 0 || ltb 5 source
+
+-- How far the pulse's edge can move: 0.49 of the cycle.
+unfoldable pub depthOf : ℕ → Float
+depthOf b = byteOf b ⊗ bits 0x3efa_e148
+
+unfoldable pub widthOf : ℕ → ℕ → Float
+widthOf source depth = cond (isManual source) (half₃₂ ⊕ depthOf depth) half₃₂
+
+unfoldable pub sweepOf : ℕ → ℕ → Float
+sweepOf source depth = cond (isManual source) zero₃₂ (depthOf depth)
+
+unfoldable pub oscillatorOneOf : ℕ → ℕ → ℕ → ℕ → Oscillator
+oscillatorOneOf source pulse saw depth = record { saw = isOn saw; pulse = isOn pulse; width = widthOf source depth; sweep = sweepOf source depth; level = one₃₂ }
+
+-- A square at a level.
+unfoldable pub oscillatorTwoOf : ℕ → Oscillator
+oscillatorTwoOf level = record { saw = false; pulse = true; width = half₃₂; sweep = zero₃₂; level = byteOf level }
+
+-- ---- noise
+unfoldable pub noiseOf : ℕ → Noise
+noiseOf level = record { level = byteOf level }
