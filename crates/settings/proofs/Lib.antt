@@ -1,1 +1,2 @@
--- none yet
+-- What the settings that bytes give satisfy.
+pub mod Ranges
