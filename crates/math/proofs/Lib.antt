@@ -19,6 +19,12 @@ pub mod Exp2Error
 pub mod Bend
 pub mod Mantissa
 pub mod Log2Error
+pub mod Nonnegative
+pub mod PolynomialSlope
+pub mod Exp2Slope
+pub mod ExactExp2
+pub mod Log2Slope
+pub mod ExactLog2
 -- the definitions against outside numbers
 pub mod Examples
 pub mod ExamplesExact

@@ -188,7 +188,7 @@ exponent-is n d e D l h = go (leb d n) (nleb→lt d n)
     go true k = ap pos (last (size q) digits)
     go false k = absurd (none (2 ^ e) (pow-pos e) l (k tt))
 
-exact-log : (n : ℤ) (d e : ℕ) → 0 < d → 2 ^ e * d + part⁻ n ≤ part⁺ n → part⁺ n < 2 * 2 ^ e * d + part⁻ n → log2Over n d ≡ log2At (pos e) (record { num = n; den = d })
+pub exact-log : (n : ℤ) (d e : ℕ) → 0 < d → 2 ^ e * d + part⁻ n ≤ part⁺ n → part⁺ n < 2 * 2 ^ e * d + part⁻ n → log2Over n d ≡ log2At (pos e) (record { num = n; den = d })
 unfolding log2Over
 exact-log n zero e D l h = absurd (none D)
   where
