@@ -1,0 +1,7 @@
+-- The envelope's height is near its exact height.
+pub mod Signs
+pub mod FloatBounds
+pub mod DivideError
+pub mod BendError
+pub mod Ends
+pub mod Distance

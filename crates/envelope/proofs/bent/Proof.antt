@@ -1,0 +1,19 @@
+-- `bent` is `bentOf`. Assumes nothing.
+use Rattle.envelope.specs.Formula.{bentOf, bentUnit, denominatorOf}
+use borrow.Author.Needs.{needs}
+use Rattle.envelope.proofs.bent.Statement.{statement}
+use Rattle.envelope.proofs.bent.Tie as tie
+
+clamp-requires : tie.Need-clamp-requires
+clamp-requires c κs = search needs
+
+returns : tie.Need-returns
+unfolding bentOf bentUnit denominatorOf
+returns c = simp (c .before .clamp .ensures, simp (c .before .clamp .ensures) at (c .if1 .taken))
+
+returns-2 : tie.Need-returns-2
+unfolding bentOf bentUnit denominatorOf
+returns-2 c = simp (c .before .clamp .ensures, simp (c .before .clamp .ensures) at (c .if1 .left))
+
+pub bent-spec : {M : Type 1} → statement M
+bent-spec = tie.close (tie.spec clamp-requires returns returns-2)

@@ -1,0 +1,43 @@
+-- THE ENVELOPE'S HEIGHT IN BINARY32: docs/SPECIFICATION.md, "The curves". Each operation is rounded once, in the order written. Definitions only.
+use mathlib.Core.Bool.{cond}
+use lib.Ieee.{Float, lt, le}
+use Rattle.exact.specs.Binary32.{_⊕_, _⊖_, _⊗_, _⊘_, zero₃₂, one₃₂}
+use Rattle.curve.specs.declared.Height.{Height}
+use Rattle.curve.specs.Curve.{unitOf, positionOf, drawnOf}
+use Rattle.settings.specs.declared.Envelope.{Envelope}
+
+-- Where t lies between two ends, clamped to 0..1: 0 in a stretch of no width.
+unfoldable pub divideOf : Float → Float → Float → Float
+divideOf t from to = cond (le (to ⊖ from) zero₃₂) zero₃₂ (unitOf ((t ⊖ from) ⊘ (to ⊖ from)))
+
+-- The denominator of a bend.
+unfoldable pub denominatorOf : Float → Float → Float
+denominatorOf u k = u ⊕ k ⊗ (one₃₂ ⊖ u)
+
+-- The bend of a u from 0 to 1: u / (u + k (1 - u)), and u itself where the denominator is not above 0.
+unfoldable pub bentUnit : Float → Float → Float
+bentUnit u k = cond (le (denominatorOf u k) zero₃₂) u (u ⊘ denominatorOf u k)
+
+-- A position along a stretch, clamped to 0..1 and bent by k.
+unfoldable pub bentOf : Float → Float → Float
+bentOf u k = bentUnit (unitOf u) k
+
+-- The four stretches: from 0 up to 1, to the sustain level, to the level that it slopes to, and to 0.
+unfoldable pub attackOf : Envelope → Float → Float
+attackOf e t = bentOf (divideOf t zero₃₂ (e .first)) (e .«attack_bend»)
+
+unfoldable pub decayOf : Envelope → Float → Float
+decayOf e t = one₃₂ ⊕ (e .sustain ⊖ one₃₂) ⊗ bentOf (divideOf t (e .first) (e .second)) (e .«decay_bend»)
+
+unfoldable pub sustainOf : Envelope → Float → Float
+sustainOf e t = e .sustain ⊕ (e .«sustain_end» ⊖ e .sustain) ⊗ divideOf t (e .second) (e .third)
+
+unfoldable pub releaseOf : Envelope → Float → Float
+releaseOf e t = e .«sustain_end» ⊗ (one₃₂ ⊖ bentOf (divideOf t (e .third) one₃₂) (e .«release_bend»))
+
+-- The level at t: that of the first stretch whose end t is below, and past the third end the release.
+unfoldable pub levelOf : Envelope → Float → Float
+levelOf e t = cond (lt t (e .first)) (attackOf e t) (cond (lt t (e .second)) (decayOf e t) (cond (lt t (e .third)) (sustainOf e t) (releaseOf e t)))
+
+unfoldable pub heightOf : Envelope → Float → Height
+heightOf e t = drawnOf (levelOf e (positionOf t))
