@@ -1,0 +1,77 @@
+-- `rest` is `restOf` of the shape. Assumes nothing.
+use mathlib.Core.Path.{_≡_, refl}
+use lib.Ieee.{div, ofBits}
+use borrow.Author.Needs.{needs}
+use Rattle.generator.specs.Generator.{restOf, filterUnity}
+use Rattle.exact.specs.Binary32.{bits}
+use Rattle.generator.proofs.Generator.rest.Statement.{statement}
+use Rattle.generator.proofs.Generator.rest.Tie as tie
+
+-- 0.8, as 48 / 60
+unity : bits 0x3f4c_cccd ≡ filterUnity
+unfolding filterUnity div ofBits
+unity = refl
+
+enum-told : tie.Need-enum-told
+enum-told c = search needs
+
+enum-told-2 : tie.Need-enum-told-2
+enum-told-2 c = search needs
+
+enum-known-shape : tie.Need-enum-known-shape
+enum-known-shape c = search needs
+
+returns : tie.Need-returns
+unfolding restOf
+returns c = simp (c .before .before .shape .given .1, c .if1 .taken)
+
+enum-told-3 : tie.Need-enum-told-3
+enum-told-3 c = search needs
+
+enum-told-4 : tie.Need-enum-told-4
+enum-told-4 c = search needs
+
+enum-told-5 : tie.Need-enum-told-5
+enum-told-5 c = search needs
+
+returns-2 : tie.Need-returns-2
+unfolding restOf
+returns-2 c = simp (c .enum-told .given .1)
+
+returns-3 : tie.Need-returns-3
+unfolding restOf
+returns-3 c = simp (c .enum-told2 .given .1)
+
+returns-4 : tie.Need-returns-4
+unfolding restOf
+returns-4 c = simp (c .before .before .shape .given .1, c .if1 .left)
+
+returns-5 : tie.Need-returns-5
+unfolding restOf
+returns-5 c = simp (c .enum-told3 .given .1) unity
+
+returns-6 : tie.Need-returns-6
+unfolding restOf
+returns-6 c = simp (c .enum-told4 .given .1)
+
+returns-7 : tie.Need-returns-7
+unfolding restOf
+returns-7 c = simp (c .enum-told5 .given .1)
+
+pub rest-spec : {M : Type 1} → statement M
+rest-spec =
+    tie.close
+    (tie.spec
+    enum-told
+    enum-told-2
+    enum-known-shape
+    returns
+    enum-told-3
+    enum-told-4
+    enum-told-5
+    returns-2
+    returns-3
+    returns-4
+    returns-5
+    returns-6
+    returns-7)

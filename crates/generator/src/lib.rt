@@ -1,0 +1,386 @@
+// A generator: the shape that a set of bytes makes and what its horizontal measures, with its marks, and the arpeggiator's gates.
+ghost use mathlib.Core.Path.{_≡_};
+ghost use mathlib.Core.Bool.{true, false};
+ghost use Rattle.settings.specs.Settings.{envelopeOf, lfoOf, fadeOf, lowPassOf, highPassOf, oscillatorOneOf, oscillatorTwoOf, noiseOf};
+ghost use Rattle.generator.specs.Generator.{generatorOf, restOf, anchoredOf};
+ghost use Rattle.generator.specs.Marks.{noMarks, markOf, pushed, pushedAll, stored, cyclesOf, envelopeMarks, fadeMarks, pulseMarks, oscillatorMarks, marksOf};
+ghost use Rattle.generator.specs.Gates.{gateOf, gatesOf};
+use settings::Envelope;
+use settings::Fade;
+use settings::Filter;
+use settings::Lfo;
+use settings::Noise;
+use settings::Oscillator;
+use settings::byte;
+use settings::envelope_from;
+use settings::fade_from;
+use settings::high_pass;
+use settings::lfo_from;
+use settings::low_pass_from;
+use settings::noise_from;
+use settings::oscillator_one_from;
+use settings::oscillator_two_from;
+
+// What a generator is a shape of.
+pub enum Shape {
+    Envelope(Envelope),
+    Fade(Fade),
+    Lfo(Lfo),
+    Filter(Filter),
+    Oscillator(Oscillator),
+    Noise(Noise),
+}
+
+// What the horizontal covers: nothing that is published, a number of cycles, or a number of octaves about the corner.
+pub enum Scale {
+    Normalised,
+    Turns(f32),
+    Octaves(f32),
+}
+
+pub struct Generator {
+    pub shape: Shape,
+    pub scale: Scale,
+}
+
+// The segments of an envelope, in their order.
+pub enum Segment {
+    Attack,
+    Decay,
+    Sustain,
+    Release,
+}
+
+// What is at a mark: the start of a segment, a filter's corner, the end of a cycle, a tap, a pulse's falling edge, or an end of that edge's sweep.
+pub enum MarkKind {
+    Segment(Segment),
+    Corner,
+    Cycle,
+    Tap,
+    Width,
+    Sweep,
+}
+
+pub struct Mark {
+    pub at: f32,
+    pub kind: MarkKind,
+}
+
+// The most marks that a shape has.
+pub const MAX_MARKS: usize = 6;
+
+// The first `count` places are marks; the others all hold one mark, which says nothing.
+pub struct Marks {
+    pub places: [Mark; MAX_MARKS],
+    pub count: usize,
+}
+
+// The steps of the arpeggiator that are drawn.
+pub const GATES_DRAWN: usize = 4;
+
+// A gate opens at its start and closes at its end, both in steps.
+pub struct Gate {
+    pub start: f32,
+    pub end: f32,
+}
+
+// The first `count` places are gates: all four, or none.
+pub struct Gates {
+    pub places: [Gate; GATES_DRAWN],
+    pub count: usize,
+}
+
+// The decibels at the top and at the bottom of a filter's picture, and the height of 0 decibels.
+pub const FILTER_CEILING_DB: f32 = 12.0;
+
+pub const FILTER_FLOOR_DB: f32 = -48.0;
+
+pub const FILTER_UNITY: f32 = -FILTER_FLOOR_DB / (FILTER_CEILING_DB - FILTER_FLOOR_DB);
+
+// ---- generators, from bytes
+pub fn envelope(
+    attack: u8,
+    decay: u8,
+    sustain: u8,
+    release: u8,
+    attack_curve: u8,
+    decay_curve: u8,
+    sustain_curve: u8,
+    release_curve: u8,
+) -> Generator
+    ensures { λ r. ⌜ r ≡ generatorOf (Shape.Envelope (envelopeOf attack decay sustain release «attack_curve» «decay_curve» «sustain_curve» «release_curve»)) ⌝ }
+{
+    Generator {
+        shape: Shape::Envelope(envelope_from(
+            attack,
+            decay,
+            sustain,
+            release,
+            attack_curve,
+            decay_curve,
+            sustain_curve,
+            release_curve,
+        )),
+        scale: Scale::Normalised,
+    }
+}
+
+fn lfo_read(shape: u8, slew: u8, sync: u8, unipolar: bool) -> Generator
+    ensures { λ r. ⌜ r ≡ generatorOf (Shape.Lfo (lfoOf shape slew sync unipolar)) ⌝ }
+{
+    let lfo = lfo_from(shape, slew, sync, unipolar);
+    Generator {
+        shape: Shape::Lfo(lfo),
+        scale: Scale::Turns(lfo.turns),
+    }
+}
+
+// An LFO about the middle of its range.
+pub fn lfo(shape: u8, slew: u8, sync: u8) -> Generator
+    ensures { λ r. ⌜ r ≡ generatorOf (Shape.Lfo (lfoOf shape slew sync false)) ⌝ }
+{
+    lfo_read(shape, slew, sync, false)
+}
+
+// An LFO from the bottom of its range.
+pub fn lfo_unipolar(shape: u8, slew: u8, sync: u8) -> Generator
+    ensures { λ r. ⌜ r ≡ generatorOf (Shape.Lfo (lfoOf shape slew sync true)) ⌝ }
+{
+    lfo_read(shape, slew, sync, true)
+}
+
+pub fn lfo_fade(fade: u8) -> Generator
+    ensures { λ r. ⌜ r ≡ generatorOf (Shape.Fade (fadeOf fade)) ⌝ }
+{
+    Generator {
+        shape: Shape::Fade(fade_from(fade)),
+        scale: Scale::Normalised,
+    }
+}
+
+// A filter's span is on either side of its corner.
+fn about_corner(filter: Filter) -> Generator
+    ensures { λ r. ⌜ r ≡ generatorOf (Shape.Filter filter) ⌝ }
+{
+    Generator {
+        shape: Shape::Filter(filter),
+        scale: Scale::Octaves(filter.span * 2.0),
+    }
+}
+
+pub fn filter_response(resonance: u8, pole: u8) -> Generator
+    ensures { λ r. ⌜ r ≡ generatorOf (Shape.Filter (lowPassOf resonance pole)) ⌝ }
+{
+    about_corner(low_pass_from(resonance, pole))
+}
+
+pub fn high_pass_response() -> Generator
+    ensures { λ r. ⌜ r ≡ generatorOf (Shape.Filter highPassOf) ⌝ }
+{
+    about_corner(high_pass())
+}
+
+pub fn oscillator_one(source: u8, pulse: u8, saw: u8, depth: u8) -> Generator
+    ensures { λ r. ⌜ r ≡ generatorOf (Shape.Oscillator (oscillatorOneOf source pulse saw depth)) ⌝ }
+{
+    Generator {
+        shape: Shape::Oscillator(oscillator_one_from(source, pulse, saw, depth)),
+        scale: Scale::Turns(1.0),
+    }
+}
+
+pub fn oscillator_two(level: u8) -> Generator
+    ensures { λ r. ⌜ r ≡ generatorOf (Shape.Oscillator (oscillatorTwoOf level)) ⌝ }
+{
+    Generator {
+        shape: Shape::Oscillator(oscillator_two_from(level)),
+        scale: Scale::Turns(1.0),
+    }
+}
+
+pub fn noise(level: u8) -> Generator
+    ensures { λ r. ⌜ r ≡ generatorOf (Shape.Noise (noiseOf level)) ⌝ }
+{
+    Generator {
+        shape: Shape::Noise(noise_from(level)),
+        scale: Scale::Normalised,
+    }
+}
+
+// ---- what a generator says of itself
+impl Generator {
+    // The height where the shape does nothing.
+    pub fn rest(self) -> f32
+        ensures { λ r. ⌜ r ≡ restOf (self .shape) ⌝ }
+    {
+        let shape = self.shape;
+        match shape {
+            Shape::Envelope(_) => 0.0,
+            Shape::Fade(_) => 0.0,
+            Shape::Lfo(l) => {
+                if l.unipolar {
+                    return 0.0;
+                }
+                0.5
+            }
+            Shape::Filter(_) => FILTER_UNITY,
+            Shape::Oscillator(_) => 0.5,
+            Shape::Noise(_) => 0.5,
+        }
+    }
+
+    pub fn scale(self) -> Scale
+        ensures { λ r. ⌜ r ≡ self .scale ⌝ }
+    {
+        self.scale
+    }
+
+    // Whether the left edge is a moment: an LFO's only where it is synced.
+    pub fn anchored(self) -> bool
+        ensures { λ r. ⌜ r ≡ anchoredOf (self .shape) ⌝ }
+    {
+        let shape = self.shape;
+        match shape {
+            Shape::Envelope(_) => true,
+            Shape::Fade(_) => true,
+            Shape::Lfo(l) => l.synced,
+            Shape::Filter(_) => true,
+            Shape::Oscillator(_) => false,
+            Shape::Noise(_) => false,
+        }
+    }
+
+    // Where along the horizontal something happens.
+    pub fn marks(self) -> Marks
+        ensures { λ r. ⌜ r ≡ marksOf (self .shape) ⌝ }
+    {
+        let shape = self.shape;
+        match shape {
+            Shape::Envelope(e) => envelope_marks(e),
+            Shape::Fade(f) => fade_marks(f),
+            Shape::Lfo(l) => cycles(no_marks(), l.turns),
+            Shape::Filter(_) => push(no_marks(), 0.5, MarkKind::Corner),
+            Shape::Oscillator(o) => oscillator_marks(o),
+            Shape::Noise(_) => no_marks(),
+        }
+    }
+}
+
+// ---- marks
+fn no_marks() -> Marks
+    ensures { λ r. ⌜ r ≡ noMarks ⌝ }
+{
+    let unused = Mark {
+        at: 0.0,
+        kind: MarkKind::Corner,
+    };
+    Marks {
+        places: [unused; MAX_MARKS],
+        count: 0,
+    }
+}
+
+// One mark more; a full record stays as it is.
+fn push(marks: Marks, at: f32, kind: MarkKind) -> Marks
+    ensures { λ r. ⌜ r ≡ pushed marks (markOf at kind) ⌝ }
+{
+    let n = marks.count;
+    if n < MAX_MARKS {
+        let mut more = marks;
+        more.places[n] = Mark { at, kind };
+        more.count = n + 1;
+        return more;
+    }
+    marks
+}
+
+fn envelope_marks(e: Envelope) -> Marks
+    ensures { λ r. ⌜ r ≡ stored (envelopeMarks e) ⌝ }
+{
+    let attack = push(no_marks(), 0.0, MarkKind::Segment(Segment::Attack));
+    let decay = push(attack, e.first, MarkKind::Segment(Segment::Decay));
+    let sustain = push(decay, e.second, MarkKind::Segment(Segment::Sustain));
+    push(sustain, e.third, MarkKind::Segment(Segment::Release))
+}
+
+fn fade_marks(f: Fade) -> Marks
+    ensures { λ r. ⌜ r ≡ stored (fadeMarks f) ⌝ }
+{
+    let attack = push(no_marks(), 0.0, MarkKind::Segment(Segment::Attack));
+    push(attack, f.end, MarkKind::Segment(Segment::Sustain))
+}
+
+// The end of each cycle, as a part of all the turns.
+fn cycles(marks: Marks, turns: f32) -> Marks
+    ensures { λ r. ⌜ r ≡ pushedAll marks (cyclesOf turns) ⌝ }
+{
+    let mut ends = marks;
+    let mut count: u8 = 0;
+    while count < 255 {
+        count += 1;
+        let cycle = count as f32;
+        if cycle > turns {
+            return ends;
+        }
+        ends = push(ends, cycle / turns, MarkKind::Cycle);
+    }
+    ends
+}
+
+// A pulse's width, and the two ends of its sweep where it is swept.
+fn pulse_marks(o: Oscillator) -> Marks
+    ensures { λ r. ⌜ r ≡ stored (pulseMarks o) ⌝ }
+{
+    if o.pulse {
+        let width = push(no_marks(), o.width, MarkKind::Width);
+        if o.sweep > 0.0 {
+            let from = push(width, o.width - o.sweep, MarkKind::Sweep);
+            return push(from, o.width + o.sweep, MarkKind::Sweep);
+        }
+        return width;
+    }
+    no_marks()
+}
+
+fn oscillator_marks(o: Oscillator) -> Marks
+    ensures { λ r. ⌜ r ≡ stored (oscillatorMarks o) ⌝ }
+{
+    cycles(pulse_marks(o), 1.0)
+}
+
+// ---- gates
+// The gate of a step.
+fn gate_at(step: u8, time: u8) -> Gate
+    ensures { λ r. ⌜ r ≡ gateOf time step ⌝ }
+{
+    let start = step as f32;
+    Gate {
+        start,
+        end: start + byte(time),
+    }
+}
+
+// The gates that the arpeggiator opens, a step each; a gate time of 0 is no note.
+pub fn arpeggiator_gates(time: u8) -> Gates
+    ensures { λ r. ⌜ r ≡ gatesOf time ⌝ }
+{
+    if time == 0 {
+        let closed = Gate {
+            start: 0.0,
+            end: 0.0,
+        };
+        return Gates {
+            places: [closed; GATES_DRAWN],
+            count: 0,
+        };
+    }
+    Gates {
+        places: [
+            gate_at(0, time),
+            gate_at(1, time),
+            gate_at(2, time),
+            gate_at(3, time),
+        ],
+        count: GATES_DRAWN,
+    }
+}
