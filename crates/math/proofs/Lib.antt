@@ -15,6 +15,8 @@ pub mod Every
 pub mod Phase
 pub mod Fold
 pub mod SineError
+pub mod OwnRange
+pub mod SineRange
 pub mod Exp2Error
 pub mod Bend
 pub mod Mantissa

@@ -5,6 +5,7 @@ use native.Mathlib.Omega.{arith}
 use lib.IntN.{pos}
 use lib.Dec.{T, lit<}
 use lib.Ieee.{Float, binary32, fits}
+use lib.Ieee.Fits.{sub-fits}
 use lib.Ieee.Scale.{finite}
 use Rattle.exact.specs.Fraction.{Fraction, Defined, ratio, whole, negℚ, floorℚ, _+ℚ_, _≤ℚ_}
 use Rattle.exact.specs.Value.{value, Equal}
@@ -17,6 +18,7 @@ use Rattle.exact.proofs.Inequality.{minus-at-most, at-least-minus, lt-le}
 use Rattle.math.specs.Formulas.{floorOf, fractOf}
 use Rattle.math.specs.Series.{fractℚ}
 use Rattle.math.proofs.FloorLaws.{floor-value}
+use Rattle.math.proofs.Fold.{Turned}
 
 pub data Phase (x : Float) : Type 0 where
   from-zero : T (finite x) → whole (pos 0) ≤ℚ value x → Phase x
@@ -53,3 +55,13 @@ pub fract-value : (x : Float) → T (fits binary32 x) → Phase x → Equal (val
 unfolding fractOf
 fract-value x f (from-zero t h) = fract-exact binary32 x (floorOf x) f t h (floor-value x f t)
 fract-value x f (walked k K l e) = fract-exact-negative binary32 x (floorOf x) k K l e (floor-value x f (value-defined x .0 (e .left)))
+
+pub fract-fits : (x : Float) → T (fits binary32 (fractOf x))
+unfolding fractOf
+fract-fits x = sub-fits binary32 x (floorOf x)
+
+-- so it is a part of a turn, the exact one
+pub fract-turned : (x : Float) → T (fits binary32 x) → Phase x → Turned (fractOf x) (fractℚ (value x)) (ratio 1 1)
+fract-turned x f p =
+    let d = value-defined x .1 (phase-finite x p) in
+    record { holds = fract-fits x; is = fract-value x f p; above = fract-above (value x) d; below = fract-below (value x) d }

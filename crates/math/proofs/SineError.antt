@@ -7,21 +7,19 @@ use Prim.Native.Nat.{ℕ, _-_, _*_, _+_, _^_}
 use lib.IntN.{pos, negsuc}
 use lib.Dec.{T, lit<, lit≤}
 use lib.Ieee.{Float, binary32, ofBits, neg, fits}
-use lib.Ieee.Fits.{sub-fits}
 use Rattle.exact.specs.Fraction.{Fraction, ratio, whole, ltℚ, _+ℚ_, _*ℚ_}
 use Rattle.exact.specs.Value.{value, Within}
 use Rattle.exact.specs.Binary32.{_⊕_, _⊗_, bits, half₃₂, one₃₂}
-use Rattle.exact.proofs.Defined.{value-defined}
 use Rattle.exact.proofs.Bounds.{lower-at, upper-at}
 use Rattle.exact.proofs.Analyser.{Bound, Expr, var, constant, approx, plus, times, Approximates, plain, evalFloat, evalExact, analyse}
 use Rattle.exact.proofs.Soundness.{plainly}
 use Rattle.exact.proofs.Inputs.{one, one-input, exact-input, covers, concludes, concluded, result}
 use Rattle.math.specs.Horner.{horner, hornerℚ}
-use Rattle.math.specs.Formulas.{floorOf, fractOf, sineCoefficients, sineOfAngle, sineOfQuarter, sineOfCycle, sinTurnsOf, halfOf, quarterOf}
+use Rattle.math.specs.Formulas.{fractOf, sineCoefficients, sineOfAngle, sineOfQuarter, sineOfCycle, sinTurnsOf, halfOf, quarterOf}
 use Rattle.math.specs.Series.{turn, terms, factorial, sineTerm, sineTerms, sineOfAngleℚ, sineOfQuarterℚ, sineOfCycleℚ, sinTurnsℚ, fractℚ, halfℚ, quarterℚ}
 use Rattle.math.proofs.SeriesExpr.{polynomial, exactly, nearestTo}
 use Rattle.math.proofs.Fold.{Turned, half-turn, quarter-turn, half-sign}
-use Rattle.math.proofs.Phase.{Phase, phase-finite, fract-above, fract-below, fract-value}
+use Rattle.math.proofs.Phase.{Phase, fract-turned}
 
 -- ---- THE SERIES over a quarter turn, and the height by the sign of the half turn
 angle : Expr
@@ -81,16 +79,6 @@ turn-height c C h =
 
     signs : (b : Bool) → Approximates binary32 (half₃₂ ⊕ half₃₂ ⊗ (cond b one₃₂ (neg one₃₂) ⊗ sineOfQuarter (quarterOf (halfOf c)))) (ratio 1 2 +ℚ ratio 1 2 *ℚ (cond b (whole (pos 1)) (whole (negsuc 0)) *ℚ sineOfQuarterℚ (quarterℚ (halfℚ C)))) heightBound
     signs b = quarter-height b (quarterOf (halfOf c)) (quarterℚ (halfℚ C)) q
-
--- ---- A PHASE
-fract-fits : (x : Float) → T (fits binary32 (fractOf x))
-unfolding fractOf
-fract-fits x = sub-fits binary32 x (floorOf x)
-
-fract-turned : (x : Float) → T (fits binary32 x) → Phase x → Turned (fractOf x) (fractℚ (value x)) (ratio 1 1)
-fract-turned x f p =
-    let d = value-defined x .1 (phase-finite x p) in
-    record { holds = fract-fits x; is = fract-value x f p; above = fract-above (value x) d; below = fract-below (value x) d }
 
 -- ---- THE THEOREM
 pub sine-height : (x : Float) → T (fits binary32 x) → Phase x → Approximates binary32 (half₃₂ ⊕ half₃₂ ⊗ sinTurnsOf x) (ratio 1 2 +ℚ ratio 1 2 *ℚ sinTurnsℚ (value x)) heightBound
