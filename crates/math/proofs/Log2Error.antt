@@ -1,4 +1,4 @@
--- log2 IN BINARY32, through u ^ 9, LIES WITHIN 1 / 262,144 OF THE EXACT ONE, through u ^ 31, for every x from 1 to 2 ^ 25. The float's mantissa m and exponent are the
+-- log2 IN BINARY32, through u ^ 9, LIES WITHIN 1 / 262,144 OF THE EXACT ONE, through u ^ 31, for every x from 1 to 2 ^ 27. The float's mantissa m and exponent are the
 -- exact ones (Mantissa.antt), so both sides work on the same m. In three stages: u = (m - 1) / (m + 1), its series, and the exponent, which is tested
 -- for all of them by one computation. Assumes nothing.
 use mathlib.Core.Path.{_≡_, refl, sym, subst, subst₂, _∙_, ap}
@@ -23,9 +23,9 @@ use Rattle.exact.proofs.Order.{≤ℚ-parts, ≤ℚ-trans, lt-value}
 use Rattle.exact.proofs.Inequality.{nlt-le}
 use Rattle.exact.proofs.Quanta.{HasQuanta, in-format, nonnegative-quanta, quanta-value, quanta-defined, equal-of-quanta}
 use Rattle.exact.proofs.Operations.{quanta-same}
-use Rattle.exact.proofs.Analyser.{Bound, Expr, var, constant, approx, plus, minus, times, quotient, Approximates, Lower, Upper, Facts, analyse, plain, certified, evalFloat, evalExact}
+use Rattle.exact.proofs.Analyser.{Bound, Expr, var, constant, approx, plus, minus, times, quotient, Approximates, Lower, Upper, Facts, analyse, plain, evalFloat, evalExact}
 use Rattle.exact.proofs.Soundness.{plainly}
-use Rattle.exact.proofs.Inputs.{one, one-input, exact-input, covers, concludes, concluded, bounded}
+use Rattle.exact.proofs.Inputs.{one, one-input, exact-input, covers, concludes, concluded, result}
 use Rattle.math.specs.Horner.{horner, hornerℚ}
 use Rattle.math.specs.Formulas.{log2Coefficients, log2Series, log2Mantissa, log2Bits, log2Of}
 use Rattle.math.specs.Series.{terms, log2Term, log2Terms, twoOverLog, log2Seriesℚ, log2Mantissaℚ, exponentOf, log2At, log2Over, log2ℚ}
@@ -71,11 +71,15 @@ series-plain = tt
 added : ℕ → Expr
 added e = plus (approx (ofInt binary32 (pos e)) (whole (pos e))) (var 0)
 
-added-test : ℕ → Bool
-added-test e = certified binary32 (one seriesBound) (added e) 1 262144
+-- from 0 to 32, off by at most 1 / 262,144
+unfoldable pub logBound : Bound
+logBound = record { lo = pos 0; hi = pos (2 ^ 154); err = 2 ^ 131 }
 
-added-ok : T (every added-test 26)
-unfolding every added-test certified analyse added seriesBound one ofInt
+added-test : ℕ → Bool
+added-test e = concludes binary32 (one seriesBound) (added e) logBound
+
+added-ok : T (every added-test 28)
+unfolding every added-test concludes analyse covers added seriesBound logBound one ofInt
 added-ok = tt
 
 -- ---- what the expressions' evaluations are
@@ -233,7 +237,7 @@ positive x t h = lt-value zero₃₂ x tt t ∙ go (ltℚ (value zero₃₂) (va
     go false k = absurd (≤ℚ-trans (ratio 1 1) (value x) (value zero₃₂) (value-defined x .1 t) h (k tt) .le)
 
 -- x is g 2 ^ e quanta, and its value A is (P - N) / D
-log-at : (x m : Float) (e : ℕ) → Scaled x m e → T (fits binary32 m) → e < 26 → Within (value (ofInt binary32 (pos e) ⊕ log2Mantissa m)) (log2ℚ (value x)) (ratio 1 262144)
+log-at : (x m : Float) (e : ℕ) → Scaled x m e → T (fits binary32 m) → e < 28 → Approximates binary32 (ofInt binary32 (pos e) ⊕ log2Mantissa m) (log2ℚ (value x)) logBound
 unfolding added-test added evalFloat evalExact one plain log2At
 log-at x m e s f l =
     let A = value x in
@@ -246,7 +250,7 @@ log-at x m e s f l =
     let lo = from-one (num⁺ A) (num⁻ A) (A .den) (s .g) (2 ^ e) U (pow-pos 149) q (s .from-one) in
     let hi = to-two (num⁺ A) (num⁻ A) (A .den) (s .g) (2 ^ e) U d (pow-pos e) q (s .below-two) in
     let n = mantissa-near m M f k (rw (scale⁺ (A .num) 1, scale⁻ (A .num) 1) (first (num⁺ A) (num⁻ A) (A .den) (2 ^ e) lo)) (rw (scale⁺ (A .num) 1, scale⁻ (A .num) 1) (last (num⁺ A) (num⁻ A) (A .den) (2 ^ e) hi)) in
-    subst (λ (B : Fraction). Within (value (ofInt binary32 (pos e) ⊕ log2Mantissa m)) B (ratio 1 262144)) (sym (exact-log (A .num) (A .den) e d lo hi))
+    subst (λ (B : Fraction). Approximates binary32 (ofInt binary32 (pos e) ⊕ log2Mantissa m) B logBound) (sym (exact-log (A .num) (A .den) e d lo hi))
     (logged M n)
   where
     over-power : (P N D g t U : ℕ) → P * U + 0 * D ≡ N * U + g * t * D → P * 1 * U + 0 * (D * t) ≡ N * 1 * U + g * (D * t)
@@ -264,14 +268,14 @@ log-at x m e s f l =
     last : (P N D t : ℕ) → P < 2 * t * D + N → P * 1 ≤ N * 1 + 2 * (D * t)
     last P N D t h = omega arith
 
-    logged : (M : Fraction) → Approximates binary32 (log2Mantissa m) (log2Mantissaℚ M) seriesBound → Within (value (ofInt binary32 (pos e) ⊕ log2Mantissa m)) (whole (pos e) +ℚ log2Mantissaℚ M) (ratio 1 262144)
+    logged : (M : Fraction) → Approximates binary32 (log2Mantissa m) (log2Mantissaℚ M) seriesBound → Approximates binary32 (ofInt binary32 (pos e) ⊕ log2Mantissa m) (whole (pos e) +ℚ log2Mantissaℚ M) logBound
     logged M n =
-        bounded binary32 (one (log2Mantissa m)) (one (log2Mantissaℚ M)) (one seriesBound) (one-input binary32 (log2Mantissa m) (log2Mantissaℚ M) seriesBound n) (added e)
-        (plainly binary32 (one (log2Mantissaℚ M)) (added e) tt) 1 262144 (lit< tt) (each added-test 26 e added-ok l)
+        concluded binary32 (one (log2Mantissa m)) (one (log2Mantissaℚ M)) (one seriesBound) (one-input binary32 (log2Mantissa m) (log2Mantissaℚ M) seriesBound n) (added e)
+        (plainly binary32 (one (log2Mantissaℚ M)) (added e) tt) logBound (each added-test 28 e added-ok l)
 
-pub log2-within : (x : Float) → T (fits binary32 x) → T (finite x) → ratio 1 1 ≤ℚ value x → value x ≤ℚ whole (pos (2 ^ 25)) → Within (value (log2Of x)) (log2ℚ (value x)) (ratio 1 262144)
+pub log2-approximates : (x : Float) → T (fits binary32 x) → T (finite x) → ratio 1 1 ≤ℚ value x → value x ≤ℚ whole (pos (2 ^ 27)) → Approximates binary32 (log2Of x) (log2ℚ (value x)) logBound
 unfolding log2Of log2Bits
-log2-within x f t lo hi =
+log2-approximates x f t lo hi =
     let A = value x in
     let U = 2 ^ 149 in
     let w = in-format binary32 x f t in
@@ -280,8 +284,8 @@ log2-within x f t lo hi =
     let q = quanta-value U x G 0 h in
     let d = value-defined x .1 t in
     let l = least (num⁺ A) (num⁻ A) (A .den) G U d q (≤ℚ-parts (ratio 1 1) A lo) in
-    let r = most (num⁺ A) (num⁻ A) (A .den) G U d q (≤ℚ-parts A (whole (pos (2 ^ 25))) hi) in
-    let r' : G < 2 ^ 175 = lt-of-le-of-lt r (lit< tt) in
+    let r = most (num⁺ A) (num⁻ A) (A .den) G U d q (≤ℚ-parts A (whole (pos (2 ^ 27))) hi) in
+    let r' : G < 2 ^ 177 = lt-of-le-of-lt r (lit< tt) in
     let b = toBits binary32 x in
     let s = scaled x G f h l r' in
     rw (positive x t lo, field-is (b / 0x80_0000) (field-from-127 x G h l r'))
@@ -290,11 +294,15 @@ log2-within x f t lo hi =
     least : (P N D G U : ℕ) → 0 < D → P * U + 0 * D ≡ N * U + G * D → 1 * D + N * 1 ≤ P * 1 + 0 * D → U ≤ G
     least P N D G U d e h = le-of-mul-le-mul-right (omega (arith, mul-le-mul-right U h)) d
 
-    most : (P N D G U : ℕ) → 0 < D → P * U + 0 * D ≡ N * U + G * D → P * 1 + 0 * D ≤ 2 ^ 25 * D + N * 1 → G ≤ 2 ^ 25 * U
+    most : (P N D G U : ℕ) → 0 < D → P * U + 0 * D ≡ N * U + G * D → P * 1 + 0 * D ≤ 2 ^ 27 * D + N * 1 → G ≤ 2 ^ 27 * U
     most P N D G U d e h = le-of-mul-le-mul-right (omega (arith, mul-le-mul-right U h)) d
 
-    small : (g e G U : ℕ) → 0 < U → g * 2 ^ e + 0 ≡ G + 0 → U ≤ g → G ≤ 2 ^ 25 * U → e < 26
-    small g e G U p i j k = pow-less e 26 (lt-of-mul-lt-mul-right U (core g (2 ^ e) G U p i j k))
+    small : (g e G U : ℕ) → 0 < U → g * 2 ^ e + 0 ≡ G + 0 → U ≤ g → G ≤ 2 ^ 27 * U → e < 28
+    small g e G U p i j k = pow-less e 28 (lt-of-mul-lt-mul-right U (core g (2 ^ e) G U p i j k))
       where
-        core : (g t G U : ℕ) → 0 < U → g * t + 0 ≡ G + 0 → U ≤ g → G ≤ 2 ^ 25 * U → t * U < 2 ^ 26 * U
+        core : (g t G U : ℕ) → 0 < U → g * t + 0 ≡ G + 0 → U ≤ g → G ≤ 2 ^ 27 * U → t * U < 2 ^ 28 * U
         core g t G U p i j k = omega (arith, mul-le-mul-right t j)
+
+pub log2-within : (x : Float) → T (fits binary32 x) → T (finite x) → ratio 1 1 ≤ℚ value x → value x ≤ℚ whole (pos (2 ^ 27)) → Within (value (log2Of x)) (log2ℚ (value x)) (ratio 1 262144)
+unfolding logBound
+log2-within x f t lo hi = result binary32 (log2Of x) (log2ℚ (value x)) logBound 1 262144 (lit< tt) (log2-approximates x f t lo hi) (lit≤ tt)

@@ -1,4 +1,4 @@
--- MANTISSA AND EXPONENT BY BITS, as `log2` takes them, of a float from 1 to below 2 ^ 26: with the bits b the exponent e is b / 2 ^ 23 - 127, the mantissa has
+-- MANTISSA AND EXPONENT BY BITS, as `log2` takes them, of a float from 1 to below 2 ^ 28: with the bits b the exponent e is b / 2 ^ 23 - 127, the mantissa has
 -- the digits b % 2 ^ 23 under a field of 127, and the float is the mantissa, from 1 to below 2, times 2 ^ e. Assumes nothing.
 use mathlib.Core.Path.{_≡_, refl, sym, ap, subst, subst₂, _∙_}
 use mathlib.Core.Bool.{Bool, true, false, cond}
@@ -116,7 +116,7 @@ by-bits b l h =
     under : (A t Q : ℕ) → t < A → 0 < Q → (A + t) * Q < 2 * (A * Q)
     under A t Q h k = omega (arith, mul-lt-mul-of-pos-right h k)
 
--- ---- the bits of a float of g quanta, from 1 to below 2 ^ 26
+-- ---- the bits of a float of g quanta, from 1 to below 2 ^ 28
 pub pow-less : (i j : ℕ) → 2 ^ i < 2 ^ j → i < j
 pow-less i j h = lt-of-not-le (λ (g : j ≤ i). not-le-of-lt h (pow-mono g))
 
@@ -124,11 +124,11 @@ record Range (b : ℕ) : Type 0 where
   low : 127 * 2 ^ 23 ≤ b
   high : b < 255 * 2 ^ 23
 
-ranged : (g : ℕ) → 2 ^ 149 ≤ g → g < 2 ^ 175 → Range (0 + (size g - 24) * 2 ^ 23 + g / 2 ^ (size g - 24))
+ranged : (g : ℕ) → 2 ^ 149 ≤ g → g < 2 ^ 177 → Range (0 + (size g - 24) * 2 ^ 23 + g / 2 ^ (size g - 24))
 ranged g l h =
     let z = size g in
     let a : 149 < z = pow-less 149 z (lt-of-le-of-lt l (size-lt g)) in
-    let b : z ≤ 175 = size-le g 175 h in
+    let b : z ≤ 177 = size-le g 177 h in
     let k = z - 24 in
     let i : 2 ^ 23 * 2 ^ k ≤ g = subst (λ (y : ℕ). y ≤ g) (ap (λ (y : ℕ). 2 ^ y) (parts z a) ∙ pow-add 2 23 k) (size-reaches g (z - 1) (last z a)) in
     let u : 2 ^ 23 ≤ g / 2 ^ k = le-div-iff-mul-le (pow-pos k) .1 i in
@@ -143,10 +143,10 @@ ranged g l h =
     lower : (z q : ℕ) → 149 < z → 2 ^ 23 ≤ q → 127 * 2 ^ 23 ≤ 0 + (z - 24) * 2 ^ 23 + q
     lower z q h k = omega arith
 
-    upper : (z q : ℕ) → z ≤ 175 → q < 2 ^ 24 → 0 + (z - 24) * 2 ^ 23 + q < 255 * 2 ^ 23
+    upper : (z q : ℕ) → z ≤ 177 → q < 2 ^ 24 → 0 + (z - 24) * 2 ^ 23 + q < 255 * 2 ^ 23
     upper z q h k = omega arith
 
-bits-range : (x : Float) (g : ℕ) → Quanta (2 ^ 149) x g 0 → 2 ^ 149 ≤ g → g < 2 ^ 175 → Range (toBits binary32 x)
+bits-range : (x : Float) (g : ℕ) → Quanta (2 ^ 149) x g 0 → 2 ^ 149 ≤ g → g < 2 ^ 177 → Range (toBits binary32 x)
 unfolding toBits
 bits-range nan g h l u = absurd h
 bits-range (inf s) g h l u = absurd h
@@ -162,14 +162,14 @@ bits-range (fin false m e) g h l u = subst (λ (y : ℕ). Range (0 + (size y - 2
     same : m * up e * 2 ^ 149 / down e ≡ g
     same = ap (λ (y : ℕ). y / down e) (flat (m * up e * 2 ^ 149) (g * down e) (down e) h) ∙ mul-div-cancel g (down-pos e)
 
-pub scaled : (x : Float) (g : ℕ) → T (fits binary32 x) → Quanta (2 ^ 149) x g 0 → 2 ^ 149 ≤ g → g < 2 ^ 175 → Scaled x (mantissaOf (toBits binary32 x)) (exponentOfBits (toBits binary32 x))
+pub scaled : (x : Float) (g : ℕ) → T (fits binary32 x) → Quanta (2 ^ 149) x g 0 → 2 ^ 149 ≤ g → g < 2 ^ 177 → Scaled x (mantissaOf (toBits binary32 x)) (exponentOfBits (toBits binary32 x))
 scaled x g f h l u =
     let r = bits-range x g h l u in
     let b = toBits binary32 x in
     subst (λ (z : Float). Scaled z (mantissaOf b) (exponentOfBits b)) (ofBits-toBits binary32 x f) (by-bits b (r .low) (r .high))
 
 -- the exponent's field is 127 or more
-pub field-from-127 : (x : Float) (g : ℕ) → Quanta (2 ^ 149) x g 0 → 2 ^ 149 ≤ g → g < 2 ^ 175 → 127 ≤ toBits binary32 x / 0x80_0000
+pub field-from-127 : (x : Float) (g : ℕ) → Quanta (2 ^ 149) x g 0 → 2 ^ 149 ≤ g → g < 2 ^ 177 → 127 ≤ toBits binary32 x / 0x80_0000
 field-from-127 x g h l u = core (toBits binary32 x) (bits-range x g h l u .low)
   where
     core : (b : ℕ) → 127 * 2 ^ 23 ≤ b → 127 ≤ b / 0x80_0000
