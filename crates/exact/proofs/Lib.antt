@@ -11,6 +11,7 @@ pub mod Rounding
 pub mod Operations
 pub mod Quanta
 pub mod Comparison
+pub mod Monotone
 pub mod RoundingTheorems
 pub mod Sterbenz
 pub mod Fract

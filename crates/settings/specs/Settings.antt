@@ -36,7 +36,7 @@ secondOf a d r = firstOf a d r ⊕ byteOf d ⊘ totalOf a d r
 unfoldable pub thirdOf : ℕ → ℕ → ℕ → Float
 thirdOf a d r = secondOf a d r ⊕ half₃₂ ⊘ totalOf a d r
 
--- The sustain's slope, from -1 to 1, and the level that it reaches from s: toward 0 below 0, toward 1 above.
+-- The sustain's slope, (c / 255 - 0.5) * 2, from -1 to 1; and the level that it reaches from s: toward 0 below 0, toward 1 above.
 unfoldable pub slopeOf : ℕ → Float
 slopeOf c = (byteOf c ⊖ half₃₂) ⊗ bits 0x4000_0000
 
@@ -98,8 +98,12 @@ fadeOf b = record { end = byteOf b ⊘ (byteOf b ⊕ half₃₂) }
 
 -- ---- filters
 -- Pole byte 1 is two poles, 12 decibels to an octave; all others are four, 24.
+unfoldable pub poleSlopeOf : ℕ → Float
+poleSlopeOf pole = cond (eqb pole 1) (bits 0x4140_0000) (bits 0x41c0_0000)
+
+-- 3 octaves to either side of the corner, here and below.
 unfoldable pub lowPassOf : ℕ → ℕ → Filter
-lowPassOf resonance pole = record { slope = cond (eqb pole 1) (bits 0x4140_0000) (bits 0x41c0_0000); resonance = byteOf resonance; span = bits 0x4040_0000; pass = Low }
+lowPassOf resonance pole = record { slope = poleSlopeOf pole; resonance = byteOf resonance; span = bits 0x4040_0000; pass = Low }
 
 -- 6 decibels to an octave, and no resonance.
 unfoldable pub highPassOf : Filter

@@ -1,4 +1,7 @@
 // The settings that a program's bytes give each generator: plain data, built by value.
+ghost use mathlib.Core.Path.{_≡_};
+ghost use Rattle.settings.specs.Settings.{byteOf, bendOf, sustainEndOf, envelopeOf, shapeOf, turnsOf, lfoOf, fadeOf, lowPassOf, highPassOf, poleSlopeOf, isManual, oscillatorOneOf, oscillatorTwoOf, noiseOf};
+use math::exp2;
 
 // Where an envelope's attack, decay and sustain end, its two levels, and the bends of its timed segments.
 pub struct Envelope {
@@ -58,4 +61,206 @@ pub struct Oscillator {
 
 pub struct Noise {
     pub level: f32,
+}
+
+// The time that a held level is drawn for.
+const HOLD_WIDTH: f32 = 0.5;
+
+// The octaves to either side of a filter's corner.
+const FILTER_SPAN: f32 = 3.0;
+
+// How far the pulse's edge can move, as a part of the cycle.
+const PULSE_REACH: f32 = 0.49;
+
+pub fn byte(raw: u8) -> f32
+    ensures { λ r. ⌜ r ≡ byteOf raw ⌝ }
+{
+    raw as f32 / 255.0
+}
+
+// ---- envelope
+pub fn bend(curve: u8) -> f32
+    ensures { λ r. ⌜ r ≡ bendOf curve ⌝ }
+{
+    exp2((curve as f32 - 128.0) / 64.0)
+}
+
+// The level that the sustain ends at: toward 0 below the curve's middle, toward 1 above it.
+pub fn sustain_end(sustain: u8, curve: u8) -> f32
+    ensures { λ r. ⌜ r ≡ sustainEndOf sustain curve ⌝ }
+{
+    let from = byte(sustain);
+    let slope = (byte(curve) - 0.5) * 2.0;
+    if slope < 0.0 {
+        return from * (1.0 + slope);
+    }
+    from + (1.0 - from) * slope
+}
+
+pub fn envelope_from(
+    attack: u8,
+    decay: u8,
+    sustain: u8,
+    release: u8,
+    attack_curve: u8,
+    decay_curve: u8,
+    sustain_curve: u8,
+    release_curve: u8,
+) -> Envelope
+    ensures { λ r. ⌜ r ≡ envelopeOf attack decay sustain release «attack_curve» «decay_curve» «sustain_curve» «release_curve» ⌝ }
+{
+    let rise = byte(attack);
+    let fall = byte(decay);
+    let total = rise + fall + HOLD_WIDTH + byte(release);
+    let first = rise / total;
+    let second = first + fall / total;
+    Envelope {
+        first,
+        second,
+        third: second + HOLD_WIDTH / total,
+        sustain: byte(sustain),
+        sustain_end: sustain_end(sustain, sustain_curve),
+        attack_bend: bend(attack_curve),
+        decay_bend: bend(decay_curve),
+        release_bend: bend(release_curve),
+    }
+}
+
+// ---- LFO
+pub fn shape_from(raw: u8) -> LfoShape
+    ensures { λ r. ⌜ r ≡ shapeOf raw ⌝ }
+{
+    match raw {
+        0 => LfoShape::Sine,
+        1 => LfoShape::Triangle,
+        2 => LfoShape::Square,
+        3 => LfoShape::RampUp,
+        4 => LfoShape::RampDown,
+        5 => LfoShape::SampleAndHold,
+        6 => LfoShape::SampleAndGlide,
+        7..=255 => LfoShape::Sine,
+    }
+}
+
+// The cycles that are drawn.
+pub fn turns(shape: LfoShape) -> f32
+    ensures { λ r. ⌜ r ≡ turnsOf shape ⌝ }
+{
+    match shape {
+        LfoShape::Sine => 1.0,
+        LfoShape::Triangle => 1.0,
+        LfoShape::Square => 1.0,
+        LfoShape::RampUp => 1.0,
+        LfoShape::RampDown => 1.0,
+        LfoShape::SampleAndHold => 6.0,
+        LfoShape::SampleAndGlide => 6.0,
+    }
+}
+
+pub fn lfo_from(shape: u8, slew: u8, sync: u8, unipolar: bool) -> Lfo
+    ensures { λ r. ⌜ r ≡ lfoOf shape slew sync unipolar ⌝ }
+{
+    Lfo {
+        shape: shape_from(shape),
+        turns: turns(shape_from(shape)),
+        slew: byte(slew),
+        unipolar,
+        synced: sync != 0,
+    }
+}
+
+pub fn fade_from(fade: u8) -> Fade
+    ensures { λ r. ⌜ r ≡ fadeOf fade ⌝ }
+{
+    let rise = byte(fade);
+    Fade {
+        end: rise / (rise + HOLD_WIDTH),
+    }
+}
+
+// ---- filters
+// Pole byte 1 is two poles; all others are four.
+fn low_pass_slope(pole: u8) -> f32
+    ensures { λ r. ⌜ r ≡ poleSlopeOf pole ⌝ }
+{
+    match pole {
+        0 => 24.0,
+        1 => 12.0,
+        2..=255 => 24.0,
+    }
+}
+
+pub fn low_pass_from(resonance: u8, pole: u8) -> Filter
+    ensures { λ r. ⌜ r ≡ lowPassOf resonance pole ⌝ }
+{
+    Filter {
+        slope: low_pass_slope(pole),
+        resonance: byte(resonance),
+        span: FILTER_SPAN,
+        pass: Pass::Low,
+    }
+}
+
+pub fn high_pass() -> Filter
+    ensures { λ r. ⌜ r ≡ highPassOf ⌝ }
+{
+    Filter {
+        slope: 6.0,
+        resonance: 0.0,
+        span: FILTER_SPAN,
+        pass: Pass::High,
+    }
+}
+
+// ---- oscillators
+// The source that sets the width by hand is 0, and every byte that names none.
+fn is_manual(source: u8) -> bool
+    ensures { λ r. ⌜ r ≡ isManual source ⌝ }
+{
+    match source {
+        0 => true,
+        1..=5 => false,
+        6..=255 => true,
+    }
+}
+
+pub fn oscillator_one_from(source: u8, pulse: u8, saw: u8, depth: u8) -> Oscillator
+    ensures { λ r. ⌜ r ≡ oscillatorOneOf source pulse saw depth ⌝ }
+{
+    let reach = byte(depth) * PULSE_REACH;
+    if is_manual(source) {
+        return Oscillator {
+            saw: saw != 0,
+            pulse: pulse != 0,
+            width: 0.5 + reach,
+            sweep: 0.0,
+            level: 1.0,
+        };
+    }
+    Oscillator {
+        saw: saw != 0,
+        pulse: pulse != 0,
+        width: 0.5,
+        sweep: reach,
+        level: 1.0,
+    }
+}
+
+pub fn oscillator_two_from(level: u8) -> Oscillator
+    ensures { λ r. ⌜ r ≡ oscillatorTwoOf level ⌝ }
+{
+    Oscillator {
+        saw: false,
+        pulse: true,
+        width: 0.5,
+        sweep: 0.0,
+        level: byte(level),
+    }
+}
+
+// ---- noise
+pub fn noise_from(level: u8) -> Noise
+    ensures { λ r. ⌜ r ≡ noiseOf level ⌝ }
+{
+    Noise { level: byte(level) }
 }

@@ -1,0 +1,24 @@
+-- `sustain_end` is `sustainEndOf`: a branch for each sign of the slope. Assumes nothing.
+use Rattle.settings.specs.Settings.{sustainEndOf, sloped, slopeOf}
+use borrow.Author.Needs.{needs}
+use Rattle.settings.proofs.sustain_end.Statement.{statement}
+use Rattle.settings.proofs.sustain_end.Tie as tie
+
+byte-requires : tie.Need-byte-requires
+byte-requires c κs = search needs
+
+byte-requires-2 : tie.Need-byte-requires-2
+byte-requires-2 c κs = search needs
+
+returns : tie.Need-returns
+unfolding sustainEndOf sloped slopeOf
+returns c =
+    simp (c .before .before .byte .ensures, c .before .byte2 .ensures, simp (c .before .byte2 .ensures) at (c .if1 .taken))
+
+returns-2 : tie.Need-returns-2
+unfolding sustainEndOf sloped slopeOf
+returns-2 c =
+    simp (c .before .before .byte .ensures, c .before .byte2 .ensures, simp (c .before .byte2 .ensures) at (c .if1 .left))
+
+pub sustain-end-spec : {M : Type 1} → statement M
+sustain-end-spec = tie.close (tie.spec byte-requires byte-requires-2 returns returns-2)
