@@ -3,13 +3,14 @@
 use super::{Envelope, EnvelopeId, Filter, Lfo, LfoId, Oscillator, OscillatorId, Pass, Shape};
 use crate::param::ParamId;
 use crate::program::Program;
+use crate::stand_in::BLOCK;
 
 fn program(set: &[(ParamId, u8)]) -> Program {
-    let mut program = Program { bytes: [0; 256] };
+    let mut block = [0; BLOCK];
     for &(parameter, value) in set {
-        program.bytes[parameter as usize] = value;
+        block[parameter as usize] = value;
     }
-    program
+    Program(block)
 }
 
 /// Attack, decay, sustain, release, then their curves.
@@ -156,7 +157,7 @@ pub fn table() {
         let l = lfo(b, 77, b);
         println!(
             "shape ({b}, {}, {}, {}, {})",
-            l.shape.raw(),
+            l.shape as u8,
             bits(l.turns),
             bits(l.slew),
             u8::from(l.synced)

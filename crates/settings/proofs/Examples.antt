@@ -1,5 +1,5 @@
 -- THE SETTINGS HELD AGAINST THE RUST. A row is the bytes, then what they give: a float by its bits, a switch as 0 or 1. Assumes nothing.
--- Every row was printed by compare/settings/run, built with rustc 1.95.0 over the unchanged math.rs, generator.rs and tables of program/generated.rs
+-- Every row was printed by compare/settings/run, built with rustc 1.95.0 over the unchanged math.rs and generator.rs
 -- (deepmind-midi, commit a25f50498d).
 use mathlib.Core.Bool.{Bool, true, false, cond, _&&_}
 use mathlib.Core.List.{List, [], _∷_}
