@@ -1,7 +1,7 @@
 //! Prints the list of the reference's answers. A line is a letter, then hexadecimal numbers:
 //!
 //!     G CODE BYTES    the generator that the lines up to the next G speak of: its code, and the bytes it reads as one number, in the
-//!                     order of docs/SPECIFICATION.md; code a0 stands for the gates, with byte 160
+//!                     order of `READ`; code a0 stands for the gates, with byte 160
 //!     S WORD ..       its settings
 //!     H T WORD        its height at position T
 //!     N COUNT         how many marks it has, or gates
@@ -56,7 +56,8 @@ impl Random {
     }
 }
 
-/// The bytes that each code reads.
+/// The bytes that each code reads: of an envelope attack, decay, sustain, release and their four curves, of an LFO shape, sync and slew, of a
+/// filter resonance and pole, of oscillator 1 source, pulse, saw and depth.
 const READ: [&[usize]; 14] = [
     &[53, 54, 55, 56, 58, 59, 60, 61],
     &[62, 63, 64, 65, 67, 68, 69, 70],

@@ -1,0 +1,39 @@
+// What the program writes.
+use crate::replay::Tally;
+use libc::STDOUT_FILENO;
+
+pub fn print_byte(b: u8) {
+    io::write_all(STDOUT_FILENO, &[b]);
+}
+
+pub fn print_number(n: u64) {
+    io::write_all(STDOUT_FILENO, b" ");
+    io::print_hex(STDOUT_FILENO, n, 1);
+}
+
+pub fn print_expected(word: u32) {
+    io::write_all(STDOUT_FILENO, b" (expected");
+    print_number(word as u64);
+    io::write_all(STDOUT_FILENO, b")");
+}
+
+pub fn print_unanswered(expected: u32) {
+    io::write_all(STDOUT_FILENO, b" nothing");
+    print_expected(expected);
+}
+
+fn print_count(label: &[u8], n: u32) {
+    io::write_all(STDOUT_FILENO, label);
+    io::print_decimal(STDOUT_FILENO, n as u64);
+    io::write_all(STDOUT_FILENO, b"\n");
+}
+
+pub fn print_tally(tally: Tally) {
+    print_count(b"settings ", tally.settings);
+    print_count(b"heights ", tally.heights);
+    print_count(b"marks ", tally.marks);
+    print_count(b"rest, scale, anchored ", tally.others);
+    print_count(b"gates ", tally.gates);
+    print_count(b"unanswered ", tally.unanswered);
+    print_count(b"different ", tally.different);
+}

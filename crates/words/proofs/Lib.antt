@@ -1,0 +1,3 @@
+-- The bits of a NaN, and the laws of agreement.
+pub mod NanBits
+pub mod Agreement

@@ -1,0 +1,2 @@
+-- The crate's definitions.
+pub mod Agreement
