@@ -28,8 +28,8 @@ use Rattle.curve.specs.Curve.{unitOf}
 use Rattle.settings.proofs.Ranges.{BendRange}
 use Rattle.envelope.specs.Formula.{denominatorOf, bentUnit, bentOf}
 use Rattle.envelope.specs.Exact.{denominatorℚ, bentℚ}
-use Rattle.envelope.proofs.Signs.{Positive, parts-positive, nonnegative, quotient-nonnegative, quotient-at-most-one}
-use Rattle.envelope.proofs.FloatBounds.{near-positive, positive-test}
+use Rattle.exact.proofs.Signs.{Positive, parts-positive, nonnegative, quotient-nonnegative, quotient-at-most-one}
+use Rattle.exact.proofs.FloatBounds.{near-positive, positive-test}
 use Rattle.envelope.proofs.DivideError.{divideBound, unit-fits}
 
 -- ---- THE EXACT DENOMINATOR u + k (1 - u), u = p / d from 0 to 1 and k = q / c not negative: with y = d - p it is (p c + q y) d / (d c d)

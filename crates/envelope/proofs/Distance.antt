@@ -17,6 +17,7 @@ use Rattle.exact.proofs.Inputs.{range, input, two, two-inputs, three, three-inp
 use Rattle.curve.specs.Curve.{positionOf, drawnOf, Drawn}
 use Rattle.curve.proofs.Positions.{Level, position-level}
 use Rattle.curve.proofs.Clamped.{drawn-near}
+use Rattle.curve.proofs.LevelInput.{unit, level-input}
 use Rattle.settings.specs.declared.Envelope.{Envelope}
 use Rattle.settings.proofs.Ranges.{EnvelopeRange}
 use Rattle.envelope.specs.Formula.{divideOf, bentOf, attackOf, decayOf, sustainOf, releaseOf, levelOf, heightOf}
@@ -26,33 +27,25 @@ use Rattle.envelope.proofs.BendError.{bentBound, bent-near, bent-fits}
 use Rattle.envelope.proofs.Ends.{level-end, zero-end, one-end, first-end, second-end, third-end}
 
 -- ---- THE BLENDS of two levels, as expressions
-levelBound : Bound
-unfolding range
-levelBound = range binary32 zero₃₂ one₃₂
-
-level-input : (x : Float) → Level x → Approximates binary32 x (value x) levelBound
-unfolding levelBound constantOf ofBits
-level-input x h = input binary32 x zero₃₂ one₃₂ (h .holds) tt tt (h .from) (h .to)
-
 decay : Expr
 decay = plus (constant one₃₂) (times (minus (var 0) (constant one₃₂)) (var 1))
 
-decay-ok : T (certified binary32 (two levelBound bentBound) decay 1 131072)
-unfolding certified analyse decay levelBound bentBound range two ofBits
+decay-ok : T (certified binary32 (two unit bentBound) decay 1 131072)
+unfolding certified analyse decay unit bentBound range two ofBits
 decay-ok = tt
 
 sustain : Expr
 sustain = plus (var 0) (times (minus (var 1) (var 0)) (var 2))
 
-sustain-ok : T (certified binary32 (three levelBound levelBound divideBound) sustain 1 131072)
-unfolding certified analyse sustain levelBound divideBound range three ofBits
+sustain-ok : T (certified binary32 (three unit unit divideBound) sustain 1 131072)
+unfolding certified analyse sustain unit divideBound range three ofBits
 sustain-ok = tt
 
 release : Expr
 release = times (var 0) (minus (constant one₃₂) (var 1))
 
-release-ok : T (certified binary32 (two levelBound bentBound) release 1 131072)
-unfolding certified analyse release levelBound bentBound range two ofBits
+release-ok : T (certified binary32 (two unit bentBound) release 1 131072)
+unfolding certified analyse release unit bentBound range two ofBits
 release-ok = tt
 
 -- ---- THE STRETCHES, at a position that lies in them
@@ -79,7 +72,7 @@ decay-near e t r s =
     let c = e .sustain in
     record {
       holds = add-fits binary32 _ _;
-      within = bounded binary32 (two c b) (two (value c) B) (two levelBound bentBound) (two-inputs binary32 c b (value c) B levelBound bentBound (level-input c (r .sustain)) h) decay (plainly binary32 (two (value c) B) decay tt) 1 131072 (lit< tt) decay-ok;
+      within = bounded binary32 (two c b) (two (value c) B) (two unit bentBound) (two-inputs binary32 c b (value c) B unit bentBound (level-input c (r .sustain)) h) decay (plainly binary32 (two (value c) B) decay tt) 1 131072 (lit< tt) decay-ok;
     }
 
 sustain-near : (e : Envelope) (t : Float) → EnvelopeRange e → Stretch t (e .second) (e .third) → LevelNear (sustainOf e t) (sustainℚ e (value t))
@@ -92,8 +85,8 @@ sustain-near e t r s =
     record {
       holds = add-fits binary32 _ _;
       within =
-          bounded binary32 (three c d u) (three (value c) (value d) X) (three levelBound levelBound divideBound)
-          (three-inputs binary32 c d u (value c) (value d) X levelBound levelBound divideBound (level-input c (r .sustain)) (level-input d (r .sustain-end)) (divide-near t (e .second) (e .third) s))
+          bounded binary32 (three c d u) (three (value c) (value d) X) (three unit unit divideBound)
+          (three-inputs binary32 c d u (value c) (value d) X unit unit divideBound (level-input c (r .sustain)) (level-input d (r .sustain-end)) (divide-near t (e .second) (e .third) s))
           sustain (plainly binary32 (three (value c) (value d) X) sustain tt) 1 131072 (lit< tt) sustain-ok;
     }
 
@@ -106,7 +99,7 @@ release-near e t r s =
     let d = e .«sustain_end» in
     record {
       holds = mul-fits binary32 _ _;
-      within = bounded binary32 (two d b) (two (value d) B) (two levelBound bentBound) (two-inputs binary32 d b (value d) B levelBound bentBound (level-input d (r .sustain-end)) h) release (plainly binary32 (two (value d) B) release tt) 1 131072 (lit< tt) release-ok;
+      within = bounded binary32 (two d b) (two (value d) B) (two unit bentBound) (two-inputs binary32 d b (value d) B unit bentBound (level-input d (r .sustain-end)) h) release (plainly binary32 (two (value d) B) release tt) 1 131072 (lit< tt) release-ok;
     }
 
 -- ---- EVERY POSITION: from 0 to 1, in the first stretch whose end it is below, or in the release

@@ -26,8 +26,8 @@ use Rattle.math.specs.Formulas.{clampOf}
 use Rattle.curve.specs.Curve.{unitOf}
 use Rattle.envelope.specs.Formula.{divideOf}
 use Rattle.envelope.specs.Exact.{divideℚ}
-use Rattle.envelope.proofs.Signs.{Positive, positive-abs, abs-at-most, difference-positive, difference-nonnegative, difference-nonpositive, difference-monotone, relative-nonpositive, relative-nonnegative, relative-positive, quotient-nonnegative, quotient-at-most-one}
-use Rattle.envelope.proofs.FloatBounds.{within-near, positive-quantum, finite-upper, positive-test}
+use Rattle.exact.proofs.Signs.{Positive, positive-abs, abs-at-most, difference-positive, difference-nonnegative, difference-nonpositive, difference-monotone, relative-nonpositive, relative-nonnegative, relative-positive, quotient-nonnegative, quotient-at-most-one}
+use Rattle.exact.proofs.FloatBounds.{within-near, positive-quantum, finite-upper, positive-test}
 
 -- ---- AN END, and a position: a float of binary32 from 0 to 2
 pub record End (x : Float) : Type 0 where

@@ -1,6 +1,4 @@
 -- The envelope's height is near its exact height.
-pub mod Signs
-pub mod FloatBounds
 pub mod DivideError
 pub mod BendError
 pub mod Ends

@@ -7,6 +7,7 @@ pub mod Order
 pub mod Inequality
 pub mod Lipschitz
 pub mod Floor
+pub mod FloorUnique
 pub mod Rounding
 pub mod Operations
 pub mod Quanta
@@ -16,6 +17,7 @@ pub mod RoundingTheorems
 pub mod Sterbenz
 pub mod Fract
 pub mod Relative
+pub mod Signs
 pub mod UnitRoundoff
 pub mod Propagation
 pub mod Analyser
@@ -26,4 +28,6 @@ pub mod StepLeaves
 pub mod Soundness
 pub mod Bounds
 pub mod Inputs
+pub mod FloatBounds
+pub mod OwnRange
 pub mod Demonstration

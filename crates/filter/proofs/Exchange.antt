@@ -51,22 +51,7 @@ lower-fraction U A z h = parts-≤ℚ (quanta U z) A h
 pub upper-fraction : (U : ℕ) (A : Fraction) (z : ℤ) → Upper U A z → A ≤ℚ quanta U z
 upper-fraction U A z h = parts-≤ℚ A (quanta U z) h
 
--- ---- a relative error of at most 1 keeps what is not negative so, and one below 1 tells that the exact value is not
-pub relative-nonnegative : (a A : Fraction) (r s : ℕ) → r ≤ s → RelativelyWithin a A (ratio r s) → whole (pos 0) ≤ℚ A → whole (pos 0) ≤ℚ a
-relative-nonnegative a A r s l h k =
-    parts-≤ℚ (whole (pos 0)) a
-    (core (num⁺ a) (num⁻ a) (a .den) (num⁺ A) (num⁻ A) (A .den) (mul-pos (h .right) (first-pos s (A .den) (h .bound))) (one-sided (A .num)) (≤ℚ-parts (whole (pos 0)) A k) (relative-across a A r s h))
-  where
-    none : (P N D : ℕ) → OneSided P N → 0 * D + N * 1 ≤ P * 1 + 0 * D → N ≡ 0
-    none P N D (up e) k = e
-    none P N D (down e) k = omega arith
-
-    plain : (p n d P N D : ℕ) → N ≡ 0 → Relatively p n d P N D r s → n * (D * s) ≤ p * (D * s)
-    plain p n d P N D e h = omega (arith, h .ge, mul-le-mul-right (P * d) l, ap (λ (z : ℕ). z * (d * s)) e, ap (λ (z : ℕ). z * (r * d)) e)
-
-    core : (p n d P N D : ℕ) → 0 < D * s → OneSided P N → 0 * D + N * 1 ≤ P * 1 + 0 * D → Relatively p n d P N D r s → 0 * d + n * 1 ≤ p * 1 + 0 * d
-    core p n d P N D E o k h = let t : n ≤ p = le-of-mul-le-mul-right (plain p n d P N D (none P N D o k) h) E in omega arith
-
+-- ---- a relative error below 1 tells that the exact value is not negative
 pub exact-nonnegative : (a A : Fraction) (r s : ℕ) → r < s → RelativelyWithin a A (ratio r s) → whole (pos 0) ≤ℚ a → whole (pos 0) ≤ℚ A
 exact-nonnegative a A r s l h k =
     parts-≤ℚ (whole (pos 0)) A

@@ -12,21 +12,13 @@ use Rattle.exact.proofs.Analyser.{Bound, Expr, var, constant, approx, negated, 
 use Rattle.exact.proofs.Soundness.{plainly}
 use Rattle.exact.proofs.Inputs.{range, input, one, one-input, covers, concludes, concluded}
 use Rattle.curve.proofs.Positions.{Level}
+use Rattle.curve.proofs.LevelInput.{unit, level-input}
 use Rattle.settings.specs.declared.Pass.{Pass}
 use Rattle.settings.specs.declared.Pass.the-variants.{Low, High}
 use Rattle.settings.specs.declared.Filter.{Filter}
 use Rattle.settings.proofs.Ranges.{Slope, six, twelve, twenty-four, FilterRange}
 use Rattle.filter.specs.Formula.{two₃₂, mirroredOf, octavesOf, twicePolesOf, squaredOf}
 use Rattle.filter.specs.Exact.{mirroredℚ, octavesℚ, twicePolesℚ, squaredℚ}
-
--- a float from 0 to 1
-unfoldable pub unit : Bound
-unfolding range
-unit = range binary32 zero₃₂ one₃₂
-
-pub level-input : (x : Float) → Level x → Approximates binary32 x (value x) unit
-unfolding unit constantOf ofBits
-level-input x h = input binary32 x zero₃₂ one₃₂ (h .holds) tt tt (h .from) (h .to)
 
 -- ---- OCTAVES, of the position
 abbrev pub span : Float

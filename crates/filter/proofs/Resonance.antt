@@ -21,12 +21,13 @@ use Rattle.math.proofs.Every.{every, each}
 use Rattle.curve.proofs.Positions.{Level}
 use Rattle.settings.specs.declared.Pass.{Pass}
 use Rattle.settings.specs.declared.Pass.the-variants.{Low, High}
+use Rattle.curve.proofs.LevelInput.{unit, level-input}
 use Rattle.settings.specs.declared.Filter.{Filter}
 use Rattle.settings.proofs.Ranges.{FilterRange}
 use Rattle.filter.specs.Formula.{two₃₂, six₃₂, ceiling₃₂, octavesOf, distanceOf, peakOf}
 use Rattle.filter.specs.Exact.{octavesℚ, distanceℚ, peakℚ}
 use Rattle.filter.proofs.Exchange.{lower-fraction, upper-fraction}
-use Rattle.filter.proofs.Exponent.{unit, level-input, octaves, octaves-plain, octaves-runs, octaves-means}
+use Rattle.filter.proofs.Exponent.{octaves, octaves-plain, octaves-runs, octaves-means}
 
 -- ---- the formulas: input 0 is the position, input 1 the resonance
 distance : Pass → Expr

@@ -22,6 +22,7 @@ use Rattle.exact.proofs.Order.{≤ℚ-parts, parts-≤ℚ, ≤ℚ-trans, sum-ra
 use Rattle.exact.proofs.Inequality.{minus-at-most, at-least-minus, lt-le}
 use Rattle.exact.proofs.Operations.{Signed, add-is}
 use Rattle.exact.proofs.Quanta.{in-format, nonnegative-quanta}
+use Rattle.exact.proofs.Signs.{relative-nonnegative}
 use Rattle.exact.proofs.Relative.{relative-loosen, relative-chain, relative-one-plus}
 use Rattle.exact.proofs.UnitRoundoff.{add-relative}
 use Rattle.exact.proofs.Analyser.{Bound, Expr, var, constant, plus, Approximates, analyse, plain, evalFloat, evalExact}
@@ -36,7 +37,7 @@ use Rattle.math.proofs.ExactLog2.{log2-near}
 use Rattle.math.proofs.Log2Error.{logBound, log2-approximates}
 use Rattle.filter.specs.Formula.{thirty₃₂, logOf}
 use Rattle.filter.specs.Exact.{logℚ}
-use Rattle.filter.proofs.Exchange.{exchange, quanta, lower-fraction, upper-fraction, relative-nonnegative, exact-nonnegative}
+use Rattle.filter.proofs.Exchange.{exchange, quanta, lower-fraction, upper-fraction, exact-nonnegative}
 use Rattle.filter.proofs.Exponent.{squaredBound}
 
 -- ---- 1 ⊕ y is at least 1 for a y that is not negative, since rounding is monotone
@@ -137,7 +138,7 @@ summed y B E f p q =
     record {
       number = t;
       near = relative-loosen (13 * 2 ^ 24 + 2 ^ 24 * 137 + 13 * 137) (2 ^ 24 * 2 ^ 24) 151 (2 ^ 24) (pow-pos 24) (lit≤ tt) r₃;
-      least = from-one y f (value-defined y .0 (p .relative .left)) (relative-nonnegative (value y) B 11 (2 ^ 24) (lit≤ tt) (p .relative) b) t;
+      least = from-one y f (value-defined y .0 (p .relative .left)) (relative-nonnegative (value y) B 11 (2 ^ 24) (pow-pos 24) (lit≤ tt) (p .relative) b) t;
       most =
           ≤ℚ-trans (value x) (hi +ℚ ratio 64 1) (whole (pos (2 ^ 27))) (mul-pos (pow-pos 149) (zero-lt-suc 0))
           (sum-raise-left (value x) (ratio 1 1 +ℚ B) hi (ratio 64 1) (w .right) (w .below) (upper-fraction (2 ^ 149) (ratio 1 1 +ℚ B) (pos (2 ^ 175 + 2 ^ 154)) (n .upper))) (leZ-yes tt);

@@ -1,10 +1,10 @@
 -- A BLEND a + (b - a) u OF TWO NUMBERS FROM 0 TO 1, by a u from 0 to 1, is a number from 0 to 1. Assumes nothing.
 use mathlib.Core.Path.{_≡_, ap, _∙_}
-use Prim.Native.Nat.{ℕ, suc, _+_, _-_, _*_, _≤_, _<_}
+use Prim.Native.Nat.{ℕ, _+_, _-_, _*_, _≤_}
 use native.Mathlib.Nat.{mul-le-mul-right}
 use native.Mathlib.Omega.{arith}
 use lib.Ieee.{Float}
-use Rattle.exact.specs.Fraction.{Fraction, Defined, ratio, _+ℚ_, _-ℚ_, _*ℚ_, _≤ℚ_}
+use Rattle.exact.specs.Fraction.{Fraction, ratio, _+ℚ_, _-ℚ_, _*ℚ_, _≤ℚ_}
 use Rattle.exact.specs.Value.{value}
 use Rattle.exact.specs.Binary32.{zero₃₂, one₃₂}
 use Rattle.exact.proofs.Parts.{num⁺, num⁻, mul⁺, mul⁻, sum-parts, difference-parts, OneSided, one-sided, up, down}

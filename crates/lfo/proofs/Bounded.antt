@@ -1,5 +1,6 @@
--- EVERY SHAPE IS BOUNDED, for every phase of a curve: its exact level is nearly from 0 to 1, and the level in binary32 is at most 37 * 2 ^ -24 from it. Assumes nothing.
-use mathlib.Core.Path.{_≡_, refl, sym, ap, subst, subst₂, _∙_}
+-- THE SHAPES BUT THE SINE ARE BOUNDED, for every phase of a curve: the exact level lies from 0 to 1, and the level in binary32 is equal to it, or at most 2 ^ -22 from it where it
+-- rounds: the ramp down and the glide. Assumes nothing.
+use mathlib.Core.Path.{_≡_, sym, ap, subst, subst₂, _∙_}
 use mathlib.Core.Bool.{Bool, true, false, not, cond}
 use Prim.Native.Nat.{ℕ, _+_, _-_, _*_, _^_, _≤_}
 use native.Mathlib.Nat.{mul-pos}
@@ -9,30 +10,30 @@ use lib.Signed.{leZ-yes}
 use lib.Dec.{T, lit<, lit≤}
 use lib.ListN.{getD}
 use lib.Ieee.{Float, binary32, ofBits, fits, lt, le, toUnsigned}
-use lib.Ieee.Fits.{add-fits, sub-fits, mul-fits, cond-fits}
+use lib.Ieee.Fits.{sub-fits, mul-fits, cond-fits}
 use lib.Ieee.Bits.{ofBits-fits}
 use Rattle.exact.specs.Fraction.{Fraction, Defined, ratio, whole, negℚ, floorℚ, ltℚ, _+ℚ_, _-ℚ_, _*ℚ_, _≤ℚ_}
-use Rattle.exact.specs.Value.{value, Equal, Within}
+use Rattle.exact.specs.Value.{value, Equal}
 use Rattle.exact.specs.Binary32.{_⊕_, _⊖_, _⊗_, bits, zero₃₂, half₃₂, one₃₂}
 use Rattle.exact.proofs.Defined.{value-defined}
 use Rattle.exact.proofs.Parts.{num⁺, num⁻, sum-parts}
-use Rattle.exact.proofs.Order.{≤ℚ-parts, parts-≤ℚ, ≤ℚ-trans, equal-refl, equal-sym, equal-at-most, le-value}
+use Rattle.exact.proofs.Order.{≤ℚ-parts, parts-≤ℚ, ≤ℚ-trans, equal-refl, equal-sym, equal-at-most}
 use Rattle.exact.proofs.Inequality.{minus-at-most, at-least-minus, lt-le, nlt-le, scale-le}
 use Rattle.exact.proofs.Bounds.{lower-at, upper-at}
 use Rattle.exact.proofs.Analyser.{Bound, Expr, var, constant, plus, minus, times, truncated, enclosed, Approximates, Facts, plain, evalFloat, evalExact, analyse, Lower, Upper}
 use Rattle.exact.proofs.Soundness.{plainly}
-use Rattle.exact.proofs.Inputs.{one, two, three, one-input, three-inputs, exact-input, covers, relax, concludes, concluded}
+use Rattle.exact.proofs.Inputs.{one, three, one-input, three-inputs, exact-input, covers, relax, concludes, concluded}
 use Rattle.exact.proofs.Fract.{floor-negative}
-use Rattle.curve.proofs.Positions.{Level, level-finite}
+use Rattle.curve.proofs.Positions.{level-finite}
 use Rattle.math.specs.Formulas.{clampOf, floorOf, fractOf}
 use Rattle.math.specs.Series.{fractℚ}
 use Rattle.math.proofs.Fold.{Turned}
-use Rattle.math.proofs.Phase.{Phase}
+use Rattle.math.proofs.Phase.{Phase, fract-turned}
 use Rattle.lfo.specs.Formula.{two₃₂, seven₃₂, wrapOf, samples, sampleOf, indexOf, sampledOf, triangleOf, squareOf, rampUpOf, rampDownOf, glideOf}
-use Rattle.lfo.specs.Exact.{wrapℚ, remainder, sampleℚ, triangleℚ, squareℚ, rampUpℚ, rampDownℚ, holdℚ, previousℚ, glideℚ}
+use Rattle.lfo.specs.Exact.{wrapℚ, remainder, sampleℚ, triangleℚ, squareℚ, rampUpℚ, rampDownℚ, holdℚ, glideℚ}
 use Rattle.lfo.proofs.Earlier.{Previous, regular, tie, previous}
-use Rattle.lfo.proofs.Wrapped.{fract-turned, wrap-turned}
-use Rattle.lfo.proofs.Shapes.{triangle-exact, square-exact, ramp-up-exact, hold-is, hold-exact, sample-level}
+use Rattle.lfo.proofs.Wrapped.{wrap-turned}
+use Rattle.lfo.proofs.Shapes.{triangle-exact, square-exact, hold-is, hold-exact, sample-level}
 use Rattle.lfo.proofs.Blend.{Unit₀₁, level-unit, blend-unit}
 
 -- ---- bounds, in quanta, 2 ^ 149 of which are 1
@@ -52,7 +53,7 @@ unit-covers : T (covers unit shapeBound)
 unfolding covers unit shapeBound
 unit-covers = tt
 
-blend-covers : T (covers blendBound shapeBound)
+pub blend-covers : T (covers blendBound shapeBound)
 unfolding covers blendBound shapeBound
 blend-covers = tt
 

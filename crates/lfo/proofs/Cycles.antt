@@ -5,15 +5,15 @@ use mathlib.Core.Bool.{Bool, true, false, cond}
 use Prim.Native.Nat.{ℕ, zero, suc, _+_, _-_, _*_, _/_, _%_, _^_, _≤_, _<_, min}
 use native.Mathlib.Nat.{mul-pos, mul-le-mul-right, mul-lt-mul-of-pos-right, mul-div-cancel, div-add-mod', mod-lt, lt-of-le-of-lt, eq-of-mul-eq-mul-right}
 use native.Mathlib.Omega.{arith}
-use lib.IntN.{ℤ, pos, negsuc, negℤ, natAbs, _-ℤ_, _*ℤ_}
-use lib.Dec.{T, ltb, lit<, lit≤}
+use lib.IntN.{ℤ, pos, negsuc, negℤ, _-ℤ_}
+use lib.Dec.{T, lit<, lit≤}
 use lib.ListN.{getD}
 use lib.Pow.{pow-pos}
 use lib.Ieee.{Float, nan, inf, fin, binary32, up, down, ofBits, ofInt, round, sum, neg, add, sub, mul, div, lt, toUnsigned, fits}
 use lib.Ieee.Fits.{down-pos, div-fits}
 use lib.Ieee.Scale.{finite}
 use borrow.Author.Tests.{le-ltb}
-use Rattle.exact.specs.Fraction.{Fraction, Defined, ratio, whole, floorOver, floorℚ, _*ℚ_, _≤ℚ_}
+use Rattle.exact.specs.Fraction.{Fraction, ratio, whole, floorℚ, _*ℚ_, _≤ℚ_}
 use Rattle.exact.specs.Value.{value, Equal}
 use Rattle.exact.specs.Binary32.{_⊖_, _⊗_, _⊘_, half₃₂}
 use Rattle.exact.proofs.Parts.{part⁺, part⁻, num⁺, num⁻, neg⁺, neg⁻, times⁺, times⁻, add-parts, abs-parts, OneSided, one-sided, up as nonnegative, down as nonpositive}
@@ -27,7 +27,7 @@ use Rattle.math.proofs.FloorLaws.{floor-value}
 use Rattle.lfo.specs.Formula.{eight₃₂, samples, sampleOf, indexOf, sampledOf}
 use Rattle.lfo.specs.Exact.{remainder}
 use Rattle.lfo.proofs.Index.{number, number-is, number-below, named}
-use Rattle.lfo.proofs.FloorUnique.{floor-equal}
+use Rattle.exact.proofs.FloorUnique.{floor-equal}
 use Rattle.lfo.proofs.Scaling.{times-power, whole-size, whole-limit, eighth}
 
 -- ---- the number that an index names

@@ -1,21 +1,20 @@
 -- THE PHASE OF A POSITION, which is a number from 0 to 1, is its product with the number of cycles drawn, 1 or 6: a finite phase from 0 to 6. Assumes nothing.
-use mathlib.Core.Path.{_≡_, refl, sym, ap, subst, subst₂, _∙_}
-use mathlib.Core.Bool.{Bool, true, false}
+use mathlib.Core.Path.{_≡_, refl, sym, ap, subst, subst₂}
+use mathlib.Core.Bool.{true, false}
 use Prim.Native.Nat.{ℕ, _+_, _*_, _^_, _≤_, _<_}
 use native.Mathlib.Nat.{mul-pos, mul-le-mul-right, le-trans}
 use native.Mathlib.Omega.{arith}
-use lib.IntN.{ℤ, pos}
+use lib.IntN.{pos}
 use lib.Dec.{T, lit<, lit≤}
-use lib.Signed.{leZ-yes}
 use lib.Ieee.{Float, nan, inf, fin, binary32, up, down, ofBits, round, mul, fits, le}
 use lib.Ieee.Fits.{down-pos, mul-fits}
 use lib.Ieee.Exact.{round-exact}
 use lib.Ieee.Order.{round-mono}
 use lib.Ieee.Scale.{finite}
-use Rattle.exact.specs.Fraction.{Fraction, Defined, ratio, whole, signed, _≤ℚ_}
-use Rattle.exact.specs.Value.{value, Equal}
+use Rattle.exact.specs.Fraction.{ratio, signed, _≤ℚ_}
+use Rattle.exact.specs.Value.{value}
 use Rattle.exact.specs.Binary32.{_⊗_}
-use Rattle.exact.proofs.Parts.{num⁺, num⁻, neg⁺, neg⁻}
+use Rattle.exact.proofs.Parts.{neg⁺, neg⁻}
 use Rattle.exact.proofs.Defined.{value-defined}
 use Rattle.exact.proofs.Order.{≤ℚ-parts, parts-≤ℚ, ≤ℚ-trans, equal-sym, equal-at-most, le-value, between-finite}
 use Rattle.curve.specs.Curve.{positionOf}

@@ -3,18 +3,18 @@
 -- Assumes nothing.
 use mathlib.Core.Path.{_≡_, refl, sym, ap, subst, subst₂, _∙_}
 use mathlib.Core.Logic.{_⊎_, inl, inr}
-use mathlib.Core.Bool.{Bool, true, false, not, cond}
+use mathlib.Core.Bool.{Bool, true, false, not}
 use Prim.Native.Nat.{ℕ, zero, suc, _+_, _-_, _*_, _/_, _^_, _≤_, _<_}
 use native.Mathlib.Nat.{mul-pos, lt-irrefl, le-of-lt, mul-le-mul-right, mul-lt-mul-of-pos-right, le-of-mul-le-mul-right, lt-of-mul-lt-mul-right}
 use native.Mathlib.Omega.{arith}
-use lib.IntN.{ℤ, pos, negsuc, negℤ, _-ℤ_}
+use lib.IntN.{ℤ, pos, negsuc, _-ℤ_}
 use lib.Dec.{T, leb, leb→le, nleb→lt, lit<, lit≤}
 use lib.ListN.{getD}
 use lib.Pow.{pow-pos}
-use lib.Ieee.{Float, nan, inf, fin, binary32, up, down, ofBits, round, sum, neg, add, sub, lt, eq, le, fits}
+use lib.Ieee.{Float, nan, inf, fin, binary32, up, down, ofBits, round, sum, neg, add, sub, lt, le, fits}
 use lib.Ieee.Fits.{down-pos, sub-fits}
 use lib.Ieee.Order.{round-mono}
-use lib.Ieee.Scale.{finite, grid, overflow, round-same, round-under}
+use lib.Ieee.Scale.{finite, grid, round-same, round-under}
 use borrow.Author.Tests.{lt-ltb, le-ltb}
 use Rattle.exact.specs.Fraction.{Fraction, Defined, ratio, whole, negℚ, floorOver, floorℚ, _-ℚ_, _≤ℚ_}
 use Rattle.exact.specs.Value.{value, Equal}
@@ -25,13 +25,13 @@ use Rattle.exact.proofs.Order.{≤ℚ-parts, parts-≤ℚ, ≤ℚ-trans, ≤ℚ
 use Rattle.exact.proofs.Close.{Close}
 use Rattle.exact.proofs.Rounding.{round-value}
 use Rattle.exact.proofs.Operations.{Quanta}
-use Rattle.exact.proofs.Quanta.{HasQuanta, in-format, nonnegative-quanta, quanta-value, equal⁺, equal⁻}
+use Rattle.exact.proofs.Quanta.{in-format, nonnegative-quanta, quanta-value, equal⁻}
 use Rattle.exact.proofs.Sterbenz.{nonnegative-exact, finer-units, difference-exact}
 use Rattle.exact.proofs.Fract.{floor-negative}
-use Rattle.math.proofs.Phase.{Phase, from-zero, walked, phase-finite}
+use Rattle.math.proofs.Phase.{Phase, from-zero, walked}
 use Rattle.lfo.specs.Formula.{samples, sampledOf}
 use Rattle.lfo.specs.Exact.{remainder}
-use Rattle.lfo.proofs.FloorUnique.{Holds, floor-unique, floor-equal, floor-less-one}
+use Rattle.exact.proofs.FloorUnique.{floor-unique, floor-equal, floor-less-one}
 use Rattle.lfo.proofs.Scaling.{has-value}
 use Rattle.lfo.proofs.Cycles.{Cycle, natural-cycle, before-zero, sampled-is}
 

@@ -1,16 +1,16 @@
 -- THE SAMPLE THAT AN INDEX NAMES, by tests against whole numbers: where k ≤ x the number is at least k, and otherwise it is below k. Assumes nothing.
-use mathlib.Core.Path.{_≡_, refl, sym, ap, subst, _∙_}
+use mathlib.Core.Path.{_≡_, refl, sym, ap, subst}
 use mathlib.Core.Bool.{Bool, true, false, cond, _&&_, _||_, true≢false, false≢true}
-use Prim.Native.Nat.{ℕ, zero, suc, _+_, _-_, _*_, _/_, _^_, _≤_, _<_, min}
+use Prim.Native.Nat.{ℕ, _-_, _*_, _/_, _^_, _≤_, _<_, min}
 use native.Mathlib.Nat.{le-div-iff-mul-le, div-lt-iff-lt-mul, mul-pos, mul-le-mul-right}
 use native.Mathlib.Omega.{arith}
-use lib.Dec.{T, ltb, eqb, lit<}
+use lib.Dec.{ltb, eqb, lit<}
 use lib.ListN.{getD}
 use lib.IntN.{ℤ, pos}
-use lib.Ieee.{Float, nan, inf, fin, binary32, up, down, ofBits, lt, eq, le, toUnsigned}
+use lib.Ieee.{Float, nan, inf, fin, up, down, ofBits, lt, eq, le, toUnsigned}
 use lib.Ieee.Fits.{down-pos}
 use borrow.Author.Tests.{ltb-true, ltb-false, le-ltb, eqb-true, eqb-false}
-use Rattle.exact.specs.Binary32.{bits, zero₃₂, half₃₂}
+use Rattle.exact.specs.Binary32.{zero₃₂, half₃₂}
 use Rattle.math.specs.Formulas.{clampOf}
 use Rattle.lfo.specs.Formula.{seven₃₂, samples, sampleOf}
 

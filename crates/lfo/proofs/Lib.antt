@@ -1,6 +1,5 @@
--- The LFO's shapes.
+-- The LFO's shapes are near the exact ones: an index's sample and a cycle's, what is exact and what is rounded, and the bound.
 pub mod Index
-pub mod FloorUnique
 pub mod Scaling
 pub mod Cycles
 pub mod Earlier

@@ -4,20 +4,20 @@ use mathlib.Core.Bool.{Bool, true, false, cond}
 use Prim.Native.Nat.{ℕ, zero, suc, _+_, _-_, _*_, _^_, _≤_, _<_}
 use native.Mathlib.Nat.{mul-pos, zero-lt-suc, lt-of-le-of-lt, mul-le-mul-right, mul-lt-mul-of-pos-right, le-of-mul-le-mul-right, lt-of-mul-lt-mul-right, eq-of-mul-eq-mul-right, le-trans, le-of-lt}
 use native.Mathlib.Omega.{arith}
-use lib.IntN.{ℤ, pos, _*ℤ_}
-use lib.Dec.{T, leb, lit<, lit≤}
+use lib.IntN.{ℤ, pos}
+use lib.Dec.{T, leb, lit<}
 use lib.Pow.{pow-add, pow-pos, pow-mono}
 use lib.Ieee.{Float, nan, inf, fin, binary32, up, down, ofBits, round, mul, div, unlike, fits}
 use lib.Ieee.Fits.{down-pos}
 use lib.Ieee.Exact.{HasValue, round-exact}
 use lib.Ieee.Scale.{finite}
 use borrow.Author.Tests.{leb-true, leb-false}
-use Rattle.exact.specs.Fraction.{Fraction, Defined, ratio, whole, signed, _*ℚ_, _≤ℚ_}
+use Rattle.exact.specs.Fraction.{ratio, whole, signed, _*ℚ_, _≤ℚ_}
 use Rattle.exact.specs.Value.{value, Equal}
 use Rattle.exact.specs.Binary32.{_⊗_, _⊘_}
-use Rattle.exact.proofs.Parts.{num⁺, num⁻, neg⁺, neg⁻, signed⁺, signed⁻, times⁺, times⁻}
+use Rattle.exact.proofs.Parts.{neg⁺, neg⁻, signed⁺, signed⁻, times⁺, times⁻}
 use Rattle.exact.proofs.Defined.{value-defined}
-use Rattle.exact.proofs.Order.{≤ℚ-parts, parts-equal, equal-trans, equal-sym}
+use Rattle.exact.proofs.Order.{≤ℚ-parts, parts-equal, equal-trans}
 use Rattle.exact.proofs.Operations.{Signed}
 use Rattle.exact.proofs.Quanta.{InFormat, in-format, equal⁺, equal⁻}
 use Rattle.lfo.specs.Formula.{eight₃₂}

@@ -1,38 +1,32 @@
 -- THE SHAPES THAT LOSE NOTHING: triangle, square, ramp up and hold are in binary32 what they are exactly, for every phase of a curve. Assumes nothing.
-use mathlib.Core.Path.{_≡_, refl, sym, ap, subst, subst₂, _∙_}
+use mathlib.Core.Path.{_≡_, sym, ap, subst}
 use mathlib.Core.Bool.{Bool, true, false, not, cond}
-use Prim.Native.Nat.{ℕ, zero, suc, _+_, _-_, _*_, _^_, _≤_, _<_}
-use native.Mathlib.Nat.{mul-pos, mul-le-mul-right}
+use Prim.Native.Nat.{ℕ, zero, suc, _+_, _*_}
+use native.Mathlib.Nat.{mul-pos}
 use native.Mathlib.Omega.{arith}
-use lib.IntN.{ℤ, pos, negsuc, _-ℤ_}
 use lib.Signed.{leZ-yes}
-use lib.Dec.{T, lit<, lit≤}
+use lib.Dec.{T, lit<}
 use lib.ListN.{getD}
-use lib.Ieee.{Float, fin, binary32, ofBits, fits, lt, le, eq}
-use lib.Ieee.Fits.{add-fits, sub-fits, mul-fits, cond-fits}
-use lib.Ieee.Scale.{finite}
-use Rattle.exact.specs.Fraction.{Fraction, Defined, ratio, whole, negℚ, floorℚ, ltℚ, _+ℚ_, _-ℚ_, _*ℚ_, _≤ℚ_}
-use Rattle.exact.specs.Value.{value, Equal, Within}
-use Rattle.exact.specs.Binary32.{_⊕_, _⊖_, _⊗_, zero₃₂, half₃₂, one₃₂}
+use lib.Ieee.{Float, binary32, ofBits, fits, lt, le, eq}
+use lib.Ieee.Fits.{mul-fits}
+use Rattle.exact.specs.Fraction.{Fraction, Defined, ratio, floorℚ, ltℚ, _-ℚ_, _*ℚ_, _≤ℚ_}
+use Rattle.exact.specs.Value.{value, Equal}
+use Rattle.exact.specs.Binary32.{_⊖_, _⊗_, zero₃₂, half₃₂, one₃₂}
 use Rattle.exact.proofs.Parts.{num⁺, num⁻, times⁺, times⁻}
 use Rattle.exact.proofs.Defined.{value-defined}
-use Rattle.exact.proofs.Order.{≤ℚ-parts, parts-≤ℚ, ≤ℚ-trans, equal-refl, parts-equal, equal-sym, equal-trans, equal-at-most}
-use Rattle.exact.proofs.Inequality.{lt-le, nlt-le, scale-le}
-use Rattle.exact.proofs.Bounds.{lower-at, upper-at}
+use Rattle.exact.proofs.Order.{≤ℚ-trans, equal-refl, parts-equal, equal-sym, equal-trans, equal-at-most}
+use Rattle.exact.proofs.Inequality.{nlt-le, scale-le}
 use Rattle.exact.proofs.Sterbenz.{sterbenz-of}
 use Rattle.exact.proofs.Quanta.{equal⁺, equal⁻}
 use Rattle.curve.proofs.Positions.{Level, level-finite}
-use Rattle.math.specs.Formulas.{fractOf}
-use Rattle.math.specs.Series.{fractℚ}
-use Rattle.math.proofs.Fold.{Turned}
-use Rattle.math.proofs.Phase.{Phase, from-zero, walked, phase-finite}
-use Rattle.lfo.specs.Formula.{two₃₂, wrapOf, samples, sampledOf, triangleOf, squareOf, rampUpOf, rampDownOf, glideOf}
-use Rattle.lfo.specs.Exact.{wrapℚ, remainder, sampleℚ, triangleℚ, squareℚ, rampUpℚ, rampDownℚ, holdℚ, previousℚ, glideℚ}
-use Rattle.lfo.proofs.FloorUnique.{floor-unique}
+use Rattle.math.proofs.Fold.{Turned, compared}
+use Rattle.math.proofs.Phase.{Phase, phase-finite}
+use Rattle.lfo.specs.Formula.{two₃₂, wrapOf, samples, sampledOf, triangleOf, squareOf, rampUpOf}
+use Rattle.lfo.specs.Exact.{wrapℚ, remainder, sampleℚ, triangleℚ, squareℚ, rampUpℚ, holdℚ}
 use Rattle.lfo.proofs.Scaling.{times-power}
-use Rattle.lfo.proofs.Cycles.{Cycle, natural-cycle, before-zero, sampled-is}
+use Rattle.lfo.proofs.Cycles.{sampled-is}
 use Rattle.lfo.proofs.Earlier.{floor-cycle}
-use Rattle.lfo.proofs.Wrapped.{zero-equal, half-equal, one-equal, one-fits, compared, wrap-turned}
+use Rattle.lfo.proofs.Wrapped.{zero-equal, half-equal, one-equal, wrap-turned}
 
 -- ---- twice a part of a cycle
 two-fits : T (fits binary32 two₃₂)

@@ -16,8 +16,8 @@ use Rattle.exact.proofs.Order.{cross, ≤ℚ-parts, ltℚ-parts, equal-refl, lt
 use Rattle.exact.proofs.Inequality.{nlt-le, lt-equal}
 use Rattle.math.specs.Formulas.{floorOf, fractOf}
 use Rattle.math.specs.Series.{fractℚ}
-use Rattle.math.proofs.Fold.{Turned}
-use Rattle.math.proofs.Phase.{Phase, phase-finite, fract-above, fract-below, fract-value}
+use Rattle.math.proofs.Fold.{Turned, compared}
+use Rattle.math.proofs.Phase.{Phase, phase-finite, fract-fits, fract-turned}
 use Rattle.lfo.specs.Formula.{wrapOf}
 use Rattle.lfo.specs.Exact.{wrapℚ}
 
@@ -37,10 +37,7 @@ pub one-fits : T (fits binary32 one₃₂)
 unfolding fits ofBits
 one-fits = tt
 
--- ---- float comparisons are the exact ones
-pub compared : (x y : Float) {A B : Fraction} → Equal (value x) A → Equal (value y) B → lt x y ≡ ltℚ A B
-compared x y e d = lt-value x y (value-defined x .0 (e .left)) (value-defined y .0 (d .left)) ∙ lt-equal e d
-
+-- ---- the float comparison is the exact one
 le-not : (x y : Float) → T (finite x) → T (finite y) → le x y ≡ not (ltℚ (value y) (value x))
 le-not x y X Y = go (le x y) (ltℚ (value y) (value x)) (le-value x y X Y .0) (le-value x y X Y .1) (ltℚ-parts (value y) (value x)) (nlt-le (value y) (value x))
   where
@@ -52,16 +49,6 @@ le-not x y X Y = go (le x y) (ltℚ (value y) (value x)) (le-value x y X Y .0) (
 
 not-above : (x y : Float) {A B : Fraction} → Equal (value x) A → Equal (value y) B → le x y ≡ not (ltℚ B A)
 not-above x y e d = le-not x y (value-defined x .0 (e .left)) (value-defined y .0 (d .left)) ∙ ap not (lt-equal d e)
-
--- ---- the part above the floor
-pub fract-fits : (p : Float) → T (fits binary32 (fractOf p))
-unfolding fractOf
-fract-fits p = sub-fits binary32 p (floorOf p)
-
-pub fract-turned : (p : Float) → T (fits binary32 p) → Phase p → Turned (fractOf p) (fractℚ (value p)) (ratio 1 1)
-fract-turned p f h =
-    let d = value-defined p .1 (phase-finite p h) in
-    record { holds = fract-fits p; is = fract-value p f h; above = fract-above (value p) d; below = fract-below (value p) d }
 
 pub wrap-fits : (p : Float) → T (fits binary32 (wrapOf p))
 unfolding wrapOf

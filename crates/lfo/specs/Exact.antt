@@ -4,7 +4,7 @@ use mathlib.Core.Bool.{not, cond, _&&_}
 use Prim.Native.Nat.{ℕ}
 use lib.IntN.{ℤ, pos, natAbs, _-ℤ_, _*ℤ_}
 use lib.ListN.{getD}
-use Rattle.exact.specs.Fraction.{Fraction, ratio, whole, floorOver, floorℚ, ltℚ, _+ℚ_, _-ℚ_, _*ℚ_}
+use Rattle.exact.specs.Fraction.{Fraction, ratio, floorOver, floorℚ, ltℚ, _+ℚ_, _-ℚ_, _*ℚ_}
 use Rattle.exact.specs.Value.{value}
 use Rattle.exact.specs.Binary32.{half₃₂}
 use Rattle.math.specs.Series.{fractℚ, sinTurnsℚ}

@@ -39,7 +39,7 @@ unfolding fits ofBits
 half-fits = tt
 
 -- the float comparison is the exact one
-compared : (x y : Float) {A B : Fraction} → Equal (value x) A → Equal (value y) B → lt x y ≡ ltℚ A B
+pub compared : (x y : Float) {A B : Fraction} → Equal (value x) A → Equal (value y) B → lt x y ≡ ltℚ A B
 compared x y e d = lt-value x y (value-defined x .0 (e .left)) (value-defined y .0 (d .left)) ∙ lt-equal e d
 
 -- ---- to the half turn

@@ -15,8 +15,9 @@ pub mod Every
 pub mod Phase
 pub mod Fold
 pub mod SineError
-pub mod OwnRange
 pub mod SineRange
+pub mod SinePolynomial
+pub mod SineEnclosure
 pub mod Exp2Error
 pub mod Bend
 pub mod Mantissa

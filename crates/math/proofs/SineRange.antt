@@ -22,7 +22,7 @@ use Rattle.math.specs.Formulas.{fractOf, sineCoefficients, sineOfAngle, 
 use Rattle.math.specs.Series.{fractℚ, halfℚ, quarterℚ}
 use Rattle.math.proofs.Fold.{Turned, half-turn, quarter-turn, half-sign}
 use Rattle.math.proofs.Phase.{Phase, fract-turned}
-use Rattle.math.proofs.OwnRange.{widened, own-range}
+use Rattle.exact.proofs.OwnRange.{widened, own-range}
 
 -- ---- the formula as an expression: its float coefficients stand for themselves
 rounded : List Float → Expr → Expr

@@ -26,7 +26,7 @@ use Rattle.settings.specs.declared.Fade.{Fade}
 use Rattle.settings.proofs.Ranges.{FadeRange}
 use Rattle.simple.specs.Formula.{fadeLevelOf, fadeHeightOf}
 use Rattle.simple.specs.Exact.{fadeℚ, fadeHeightℚ}
-use Rattle.simple.proofs.Levels.{unit, level-input}
+use Rattle.curve.proofs.LevelInput.{unit, level-input}
 
 -- ---- the rise as an expression: the end is at least one quantum, and the quotient lies from 0 to 1
 rise : Expr

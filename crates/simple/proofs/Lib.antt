@@ -1,5 +1,4 @@
 -- How near the fade, the oscillator and the noise are to their exact heights.
-pub mod Levels
 pub mod FadeError
 pub mod OscillatorError
 pub mod Scatter

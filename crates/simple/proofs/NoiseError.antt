@@ -15,7 +15,7 @@ use Rattle.settings.specs.declared.Noise.{Noise}
 use Rattle.settings.proofs.Ranges.{NoiseRange}
 use Rattle.simple.specs.Formula.{noiseAtOf, noiseLevelOf, noiseHeightOf}
 use Rattle.simple.specs.Exact.{noiseℚ, noiseHeightℚ}
-use Rattle.simple.proofs.Levels.{unit, level-input}
+use Rattle.curve.proofs.LevelInput.{unit, level-input}
 use Rattle.simple.proofs.Scatter.{noise-input}
 
 -- the inputs are the scatter and the level

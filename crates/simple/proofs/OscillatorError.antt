@@ -22,7 +22,7 @@ use Rattle.settings.specs.declared.Oscillator.{Oscillator}
 use Rattle.settings.proofs.Ranges.{OscillatorRange}
 use Rattle.simple.specs.Formula.{sawOf, pulseOf, addedOf, sumOf, wavesOf, oscillatorLevelOf, oscillatorHeightOf}
 use Rattle.simple.specs.Exact.{sawℚ, pulseℚ, addedℚ, sumℚ, oscillatorℚ, oscillatorHeightℚ}
-use Rattle.simple.proofs.Levels.{unit, level-input}
+use Rattle.curve.proofs.LevelInput.{unit, level-input}
 
 -- ---- THE WAVES: both lie from -1 to 1
 wave : Bound

@@ -24,11 +24,11 @@ use Rattle.exact.proofs.Inputs.{range, one, one-input, exact-input, covers, con
 use Rattle.math.specs.Formulas.{fractOf, sinTurnsOf}
 use Rattle.math.specs.Series.{fractℚ}
 use Rattle.math.proofs.Phase.{Phase, from-zero, fract-turned}
-use Rattle.math.proofs.OwnRange.{approximates-finite, own-range}
+use Rattle.exact.proofs.OwnRange.{approximates-finite, own-range}
 use Rattle.math.proofs.SineRange.{sineRange, sin-turns-range}
 use Rattle.curve.proofs.Positions.{Level, level-finite}
 use Rattle.simple.specs.Formula.{noiseAtOf}
-use Rattle.simple.proofs.Levels.{unit, level-input}
+use Rattle.curve.proofs.LevelInput.{unit, level-input}
 
 -- ---- a product with what has no sign keeps what is not negative so
 unsigned : (a c : ℕ) → 0 < c → T (finite (round binary32 false a c)) → ratio 0 1 ≤ℚ value (round binary32 false a c)

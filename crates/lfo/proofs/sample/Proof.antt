@@ -3,8 +3,8 @@ use mathlib.Core.Path.{_≡_}
 use Prim.Native.Nat.{ℕ, suc, _≤_, _<_, zero-le}
 use native.Mathlib.Omega.{arith}
 use lib.Dec.{lit<, lit≤}
-use lib.Ieee.{Float, ofBits}
-use Rattle.lfo.specs.Formula.{samples, sampleOf}
+use lib.Ieee.{ofBits}
+use Rattle.lfo.specs.Formula.{samples}
 use Rattle.lfo.proofs.Index.{number, reaches, named, seven-most}
 use Rattle.lfo.proofs.sample.Statement.{statement}
 use Rattle.lfo.proofs.sample.Tie as tie

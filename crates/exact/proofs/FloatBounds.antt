@@ -9,16 +9,16 @@ use lib.Dec.{T}
 use lib.Pow.{pow-pos}
 use lib.Ieee.{Float, Format, low, fits, ofBits, le}
 use lib.Ieee.Scale.{finite, overflow}
 use Rattle.exact.specs.Fraction.{Fraction, Defined, ratio, _≤ℚ_}
 use Rattle.exact.specs.Value.{value, Within}
 use Rattle.exact.specs.Binary32.{zero₃₂}
 use Rattle.exact.proofs.Close.{ring, Close, cancel}
 use Rattle.exact.proofs.Parts.{num⁺, num⁻}
 use Rattle.exact.proofs.Order.{≤ℚ-parts, ltℚ-parts, within-close, le-value}
 use Rattle.exact.proofs.Defined.{value-defined}
 use Rattle.exact.proofs.Quanta.{in-format, quanta-of, quanta-value, quanta-defined}
 use Rattle.exact.proofs.Analyser.{Lower, Upper, Near}
-use Rattle.envelope.proofs.Signs.{Positive, positive-parts, parts-positive}
+use Rattle.exact.proofs.Signs.{Positive, positive-parts, parts-positive}
 
 -- ---- a float within e quanta of a fraction, as an input of the analyser
 pub within-near : (f : Format) (x : Float) (A : Fraction) (e : ℕ) → T (fits f x) → Within (value x) A (ratio e (2 ^ low f)) → Near (2 ^ low f) x A e
