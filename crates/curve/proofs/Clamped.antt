@@ -2,11 +2,10 @@
 use mathlib.Core.Bool.{not}
 use Prim.Native.Nat.{ℕ}
 use lib.Dec.{T}
-use lib.Ieee.{Float, nan, inf, fin, binary32, ofBits, fits, isNan, lt}
+use lib.Ieee.{Float, nan, inf, fin, binary32, ofBits, fits, isNan}
 use lib.Ieee.Scale.{finite}
 use Rattle.exact.specs.Fraction.{Fraction, ratio, unitℚ}
 use Rattle.exact.specs.Value.{value, Equal, Within}
-use Rattle.exact.specs.Binary32.{zero₃₂, one₃₂}
 use Rattle.exact.proofs.Defined.{value-defined}
 use Rattle.exact.proofs.Order.{equal-sym, within-equal-left}
 use Rattle.exact.proofs.Lipschitz.{unit-within, unit-value}

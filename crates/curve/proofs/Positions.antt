@@ -1,13 +1,8 @@
 -- A POSITION is a number from 0 to 1, whatever the f32: `unit-level` of every x that is no NaN. Assumes nothing.
-use mathlib.Core.Path.{_≡_, refl, sym, subst}
-use mathlib.Core.Bool.{Bool, true, false, not, cond, _||_}
-use Prim.Native.Nat.{_*_}
+use mathlib.Core.Bool.{Bool, true, false, not, cond}
 use lib.Dec.{T}
 use lib.Ieee.{Float, nan, inf, fin, binary32, ofBits, fits, isNan, lt, le, eq}
-use lib.Ieee.Fits.{cond-fits}
 use lib.Ieee.Scale.{finite}
-use Rattle.exact.specs.Fraction.{_≤ℚ_}
-use Rattle.exact.specs.Value.{value}
 use Rattle.exact.specs.Binary32.{zero₃₂, one₃₂}
 use Rattle.exact.proofs.Order.{le-value, nlt-at-most}
 use Rattle.math.specs.Formulas.{clampOf}

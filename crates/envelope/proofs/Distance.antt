@@ -11,9 +11,9 @@ use Rattle.exact.specs.Fraction.{Fraction, Defined, ratio, whole}
 use Rattle.exact.specs.Value.{value, Within}
 use Rattle.exact.specs.Binary32.{zero₃₂, one₃₂}
 use Rattle.exact.proofs.Order.{le-value, lt-value, lt-at-most, nlt-at-most}
-use Rattle.exact.proofs.Analyser.{Bound, Expr, var, constant, plus, minus, times, Approximates, constantOf, analyse, certified, plain, evalFloat, evalExact}
+use Rattle.exact.proofs.Analyser.{Expr, var, constant, plus, minus, times, analyse, certified, plain, evalFloat, evalExact}
 use Rattle.exact.proofs.Soundness.{plainly}
-use Rattle.exact.proofs.Inputs.{range, input, two, two-inputs, three, three-inputs, bounded, result}
+use Rattle.exact.proofs.Inputs.{range, two, two-inputs, three, three-inputs, bounded, result}
 use Rattle.curve.specs.Curve.{positionOf, drawnOf, Drawn}
 use Rattle.curve.proofs.Positions.{Level, position-level}
 use Rattle.curve.proofs.Clamped.{drawn-near}

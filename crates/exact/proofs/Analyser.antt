@@ -3,11 +3,11 @@
 -- which are 1, and tests each of them: how the numbers are found does not matter to the proof. Soundness.antt says that where the tests pass
 -- the bounds hold. `certified` is the test that an application computes by `tt`. Definitions only.
 use mathlib.Core.Bool.{Bool, true, false, _&&_, cond}
-use Prim.Native.Nat.{ℕ, zero, suc, _+_, _-_, _*_, _/_, _^_, _≤_, _<_, max}
-use lib.IntN.{ℤ, pos, negsuc, negℤ, _+ℤ_, _-ℤ_, _*ℤ_}
+use Prim.Native.Nat.{ℕ, suc, _+_, _-_, _*_, _/_, _^_, max}
+use lib.IntN.{ℤ, pos, negℤ, _+ℤ_, _-ℤ_, _*ℤ_}
 use lib.Signed.{leZ, nonNeg}
 use lib.Dec.{leb, ltb, eqb}
-use lib.Ieee.{Float, nan, inf, fin, Format, prec, emax, low, up, down, size, round, add, sub, mul, div, neg, lt}
+use lib.Ieee.{Float, nan, inf, fin, Format, prec, emax, low, up, down, size, add, sub, mul, div, neg, lt}
 use Rattle.exact.specs.Fraction.{Fraction, Defined, smaller, larger, floorOver, unitℚ, negℚ, _+ℚ_, _-ℚ_, _*ℚ_, _/ℚ_}
 use Rattle.exact.specs.Value.{value}
 use Rattle.exact.proofs.Parts.{part⁺, part⁻, num⁺, num⁻}

@@ -1,17 +1,17 @@
 -- THE CLAMP TO 0..1 in floats and exactly brings the two no further apart, and its exact value lies from 0 to 1. Assumes nothing.
 use mathlib.Core.Path.{_≡_, refl}
 use mathlib.Core.Bool.{Bool, true, false, not, cond}
-use Prim.Native.Nat.{ℕ, zero, suc, _+_, _*_, _≤_, _<_}
+use Prim.Native.Nat.{ℕ, suc, _+_, _*_, _≤_, _<_}
 use native.Mathlib.Nat.{mul-le-mul-right}
 use native.Mathlib.Omega.{arith}
 use lib.IntN.{ℤ, pos, negsuc}
 use lib.Signed.{ltZ}
 use lib.Dec.{T}
 use lib.Ieee.{Float, fin, lt}
-use Rattle.exact.specs.Fraction.{Fraction, Defined, smaller, larger, unitℚ}
-use Rattle.exact.proofs.Close.{Close, cancel}
+use Rattle.exact.specs.Fraction.{Fraction, smaller, larger, unitℚ}
+use Rattle.exact.proofs.Close.{Close}
 use Rattle.exact.proofs.Parts.{part⁺, part⁻, num⁺, num⁻, ltZ-parts, nltZ-parts}
-use Rattle.exact.proofs.Operations.{Quanta, NearParts}
+use Rattle.exact.proofs.Operations.{Quanta}
 use Rattle.exact.proofs.Comparison.{lt-quanta, nlt-quanta}
 use Rattle.exact.proofs.Analyser.{Near, Lower, Upper, clampUnit}
 

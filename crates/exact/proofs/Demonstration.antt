@@ -1,6 +1,6 @@
 -- HOW TO BOUND A NEW FORMULA, at a blend of two levels: a ⊕ (b ⊖ a) ⊗ u for a, b and u from 0 to 1 lies within 2 ^ -22 of a + (b - a) u.
 -- The formula as an expression, its inputs' ranges, one computed test, and the theorem. Assumes nothing.
-use Prim.Native.Nat.{ℕ, _^_}
+use Prim.Native.Nat.{_^_}
 use lib.Dec.{T, lit<}
 use lib.Ieee.{Float, binary32, ofBits, fits, le}
 use Rattle.exact.specs.Fraction.{ratio, _+ℚ_, _-ℚ_, _*ℚ_}

@@ -1,14 +1,13 @@
 -- THE FLOOR OF A FRACTION is a whole number that is not above it, and has it below the next one. Assumes nothing.
 use mathlib.Core.Path.{_≡_}
-use mathlib.Core.Bool.{Bool, true, false, not}
-use Prim.Native.Nat.{ℕ, suc, _+_, _*_, _/_, _%_, _≤_, _<_}
+use Prim.Native.Nat.{ℕ, _+_, _*_, _≤_, _<_}
 use native.Mathlib.Nat.{div-add-mod', mod-lt}
 use native.Mathlib.Omega.{arith}
 use lib.Dec.{T}
-use lib.IntN.{ℤ, pos, negsuc, sucℤ, _+ℤ_}
+use lib.IntN.{ℤ, pos, negsuc}
 use Rattle.exact.specs.Fraction.{Fraction, Defined, whole, floorOver, floorℚ, ltℚ, _+ℚ_, _≤ℚ_}
 use Rattle.exact.proofs.Parts.{part⁺, part⁻, num⁺, num⁻, sum-parts}
-use Rattle.exact.proofs.Order.{parts-≤ℚ, nltℚ-parts}
+use Rattle.exact.proofs.Order.{parts-≤ℚ}
 use Rattle.exact.proofs.Inequality.{parts-ltℚ}
 
 -- n = (n / d) d + n % d, with n % d below d

@@ -2,13 +2,12 @@
 use mathlib.Core.Path.{_≡_, refl}
 use mathlib.Core.Bool.{Bool, true, false, not}
 use Prim.Native.Nat.{ℕ, _+_, _*_, _≤_, _<_}
-use native.Mathlib.Nat.{mul-le-mul-right, le-of-mul-le-mul-right, le-of-lt, not-le-of-lt}
+use native.Mathlib.Nat.{mul-le-mul-right, le-of-lt, not-le-of-lt}
 use native.Mathlib.Omega.{arith}
 use lib.IntN.{pos, natAbs}
 use lib.Dec.{T}
 use Rattle.exact.specs.Fraction.{Fraction, Defined, ratio, absℚ, _+ℚ_, _-ℚ_, _*ℚ_, _≤ℚ_, ltℚ}
 use Rattle.exact.specs.Value.{Equal}
-use Rattle.exact.proofs.Close.{ring}
 use Rattle.exact.proofs.Parts.{num⁺, num⁻, mul⁺, mul⁻, abs-parts, sum-parts, difference-parts}
 use Rattle.exact.proofs.Order.{cross, ≤ℚ-parts, parts-≤ℚ, ltℚ-parts, nltℚ-parts, ≤ℚ-trans, equal-at-most, equal-sym}
 

@@ -1,10 +1,10 @@
 -- THE TWO ENDS OF AN ANALYSIS, and what an application cites. An input is a float of the format that lies between two constants: it stands for its
 -- own value, with no error (`input`). A result is a distance between fractions (`result`). `bounded` goes from the one to the other: the
 -- inputs' bounds, an expression, and one computed test (`certified`) give `Within`. Assumes nothing.
-use mathlib.Core.Path.{_≡_, refl, sym, ap, subst}
+use mathlib.Core.Path.{_≡_, ap}
 use mathlib.Core.Bool.{Bool, _&&_}
 use Prim.Native.Nat.{ℕ, zero, suc, _+_, _*_, _^_, _≤_, _<_}
-use native.Mathlib.Nat.{mul-le-mul-right, le-of-mul-le-mul-right, zero-lt-suc}
+use native.Mathlib.Nat.{mul-le-mul-right, le-of-mul-le-mul-right}
 use native.Mathlib.Omega.{arith}
 use lib.IntN.{ℤ}
 use lib.Signed.{leZ}
@@ -13,17 +13,17 @@ use lib.Pow.{pow-pos}
 use lib.Ieee.{Float, Format, low, fits, le}
 use lib.Ieee.Fits.{and-l, and-r}
 use lib.Ieee.Scale.{finite}
-use Rattle.exact.specs.Fraction.{Fraction, Defined, ratio, _≤ℚ_}
+use Rattle.exact.specs.Fraction.{Fraction, ratio}
 use Rattle.exact.specs.Value.{value, Within, Equal}
 use Rattle.exact.proofs.Close.{ring, Close, times, cancel}
 use Rattle.exact.proofs.Parts.{part⁺, part⁻, num⁺, num⁻, leZ-parts}
-use Rattle.exact.proofs.Order.{≤ℚ-parts, close-within, within-close, le-value, between-finite}
+use Rattle.exact.proofs.Order.{≤ℚ-parts, close-within, le-value, between-finite}
 use Rattle.exact.proofs.Quanta.{quanta-of, quanta-value, quanta-defined, equal⁺, equal⁻}
 use Rattle.exact.proofs.Defined.{value-defined}
 use Rattle.exact.proofs.Analyser as A
-use Rattle.exact.proofs.Analyser.{Bound, Analysis, Expr, Approximates, Lower, Upper, Near, Facts, evalFloat, evalExact, analyse, certified, constantOf}
+use Rattle.exact.proofs.Analyser.{Bound, Expr, Approximates, Lower, Upper, Near, Facts, evalFloat, evalExact, analyse, certified, constantOf}
 use Rattle.exact.proofs.StepLeaves.{constant-sound}
-use Rattle.exact.proofs.Soundness.{sound, plainly}
+use Rattle.exact.proofs.Soundness.{sound}
 
 -- ---- A RESULT: |x - A| ≤ r / s
 pub result : (f : Format) (x : Float) (A : Fraction) (b : Bound) (r s : ℕ) → 0 < s → Approximates f x A b → b .err * s ≤ r * 2 ^ low f → Within (value x) A (ratio r s)

@@ -1,7 +1,7 @@
 -- THE OPERATIONS ON FINITE FLOATS, each against the exact result of its operands: negation, sum, difference, product, quotient.
 -- A quantum is the format's smallest positive value, and U = 2 ^ low f of them are 1. `Quanta U x p n` says that x is finite and is p - n
 -- quanta. `NearParts U x p n W r` says that x is finite and at most r quanta from (p - n) / W. Assumes nothing.
-use mathlib.Core.Path.{_≡_, refl, sym, ap, subst, _∙_}
+use mathlib.Core.Path.{_≡_, refl, sym, ap, subst}
 use mathlib.Core.Bool.{Bool, true, false, not, cond, _&&_}
 use Prim.Native.Nat.{ℕ, zero, suc, _+_, _-_, _*_, _^_, _≤_, _<_}
 use native.Mathlib.Nat.{mul-le-mul-right, le-of-mul-le-mul-right, eq-of-mul-eq-mul-right, mul-pos, pow-suc, add-sub-of-le, le-of-lt}

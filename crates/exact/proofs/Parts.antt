@@ -6,7 +6,7 @@ use Prim.Native.Nat.{ℕ, zero, suc, _+_, _-_, _*_, _≤_, _<_}
 use native.Mathlib.Omega.{arith}
 use lib.IntN.{ℤ, pos, negsuc, negℤ, natAbs, subℕ, _+ℤ_, _*ℤ_}
 use lib.Signed.{leZ, ltZ, _≤ℤ_, leZ-yes}
-use lib.Dec.{T, leb, ltb, leb→le, ltb→lt, nltb→le, le→leb, lt→ltb}
+use lib.Dec.{T, ltb, leb→le, ltb→lt, nltb→le, le→leb}
 use Rattle.exact.specs.Fraction.{Fraction, _+ℚ_, negℚ, _-ℚ_}
 
 abbrev pub part⁺ : ℤ → ℕ

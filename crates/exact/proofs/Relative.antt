@@ -9,7 +9,7 @@ use lib.IntN.{ℤ, pos, negsuc, negℤ, natAbs, _*ℤ_}
 use Rattle.exact.specs.Fraction.{Fraction, Defined, ratio, whole, absℚ, over, _+ℚ_, _*ℚ_, _/ℚ_, _≤ℚ_}
 use Rattle.exact.specs.Value.{Equal, Within, RelativelyWithin}
 use Rattle.exact.proofs.Close.{ring, semiring, Close, recast, times, cancel, product}
-use Rattle.exact.proofs.Parts.{part⁺, part⁻, num⁺, num⁻, mul⁺, mul⁻, scale⁺, scale⁻, times⁺, times⁻, neg⁺, neg⁻, abs-parts, OneSided, up, down, one-sided, sum-parts}
+use Rattle.exact.proofs.Parts.{part⁺, part⁻, num⁺, num⁻, mul⁺, mul⁻, scale⁺, scale⁻, neg⁺, neg⁻, abs-parts, OneSided, up, down, one-sided, sum-parts}
 use Rattle.exact.proofs.Order.{≤ℚ-parts, parts-≤ℚ, within-close, close-within, within-loosen}
 use Rattle.exact.proofs.Inequality.{scale-le}
 use Rattle.exact.proofs.Operations.{first-pos}

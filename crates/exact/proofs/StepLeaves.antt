@@ -1,7 +1,7 @@
 -- THE ANALYSER'S STEPS: constants, constants that stand for a fraction, a shorter computation for a longer one, bounds brought along, and the clamp. Assumes nothing.
 use mathlib.Core.Path.{_≡_}
 use mathlib.Core.Bool.{Bool, true, false, _&&_, cond}
-use Prim.Native.Nat.{ℕ, _+_, _-_, _*_, _/_, _^_, _≤_, max}
+use Prim.Native.Nat.{ℕ, _+_, _*_, _/_, _^_, _≤_, max}
 use native.Mathlib.Omega.{arith}
 use lib.IntN.{ℤ, negℤ, _-ℤ_}
 use lib.Dec.{T, leb, ltb, leb→le, ltb→lt, eqb→eq}
@@ -16,7 +16,7 @@ use Rattle.exact.proofs.Operations.{Signed, Quanta}
 use Rattle.exact.proofs.Propagation.{exchange}
 use Rattle.exact.proofs.Clamp.{clamp-near, unit-lower, unit-upper}
 use Rattle.exact.proofs.Analyser.{Analysis, Approximates, Lower, Upper, clampUnit, negatedOf, clampedOf, truncatedOf, enclosedOf, signedℤ, constantOf, approxOk, approxOf}
-use Rattle.exact.proofs.StepSums.{both, three, most}
+use Rattle.exact.proofs.StepSums.{both, three}
 
 -- ---- CONSTANTS
 pub constant-signed : (s : Bool) (m d g U : ℕ) → m * U ≡ g * d → Signed s m d (part⁺ (signedℤ s g)) (part⁻ (signedℤ s g)) U

@@ -17,7 +17,7 @@ use Rattle.exact.proofs.Parts.{part⁺, part⁻, num⁺, num⁻, mul⁺
 use Rattle.exact.proofs.Operations.{Quanta, div-near}
 use Rattle.exact.proofs.Propagation.{Propagated, AtLeast, AtMost, ProductAtMost, quotient-error, quotient-at-least, quotient-at-most}
 use Rattle.exact.proofs.Analyser.{Bound, Analysis, Approximates, Lower, Upper, magnitude, roundingOf, divisorOk, quotientOk, quotientOf, overOk, overOf, divisorLeast, inherited, leastOver, mostOver}
-use Rattle.exact.proofs.StepSums.{three, sized, rounding-sound, rounding-guard, least}
+use Rattle.exact.proofs.StepSums.{three, sized, rounding-sound, rounding-guard}
 
 -- ---- QUOTIENTS
 -- the divisor's bounds rule out a divisor of 0 or below

@@ -11,8 +11,7 @@ use lib.Dec.{T, leb, leb→le}
 use lib.Pow.{pow-pos}
 use lib.Ieee.{Float, Format, prec, emax, low, size, add, mul, neg}
 use lib.Ieee.Fits.{and-l, and-r}
-use Rattle.exact.specs.Fraction.{Fraction, Defined, larger, negℚ, _+ℚ_, _*ℚ_}
-use Rattle.exact.specs.Value.{value}
+use Rattle.exact.specs.Fraction.{Fraction, Defined, negℚ, _+ℚ_, _*ℚ_}
 use Rattle.exact.proofs.Close.{Close, flip}
 use Rattle.exact.proofs.Parts.{part⁺, part⁻, num⁺, num⁻, neg⁺, neg⁻, add-parts, mul⁺, mul⁻, scale⁺, scale⁻, leZ-parts, sum-parts}
 use Rattle.exact.proofs.Operations.{NearParts, neg-quanta, add-near, mul-near}

@@ -2,7 +2,7 @@
 -- read as an order of fractions; and a relative error keeps the sign. Assumes nothing.
 use mathlib.Core.Path.{_≡_, ap}
 use Prim.Native.Nat.{ℕ, _+_, _*_, _^_, _≤_, _<_}
-use native.Mathlib.Nat.{mul-le-mul-right, le-of-mul-le-mul-right, mul-pos}
+use native.Mathlib.Nat.{mul-le-mul-right, le-of-mul-le-mul-right}
 use native.Mathlib.Omega.{arith}
 use lib.IntN.{ℤ, pos}
 use lib.Ieee.{Float, Format, low}
@@ -11,7 +11,6 @@ use Rattle.exact.specs.Value.{Within, RelativelyWithin}
 use Rattle.exact.proofs.Close.{ring, Close, times, cancel}
 use Rattle.exact.proofs.Parts.{part⁺, part⁻, num⁺, num⁻, OneSided, up, down, one-sided}
 use Rattle.exact.proofs.Order.{≤ℚ-parts, parts-≤ℚ, within-close}
-use Rattle.exact.proofs.Operations.{first-pos}
 use Rattle.exact.proofs.Relative.{Relatively, relative-across}
 use Rattle.exact.proofs.Analyser.{Bound, Approximates, Lower, Upper}
 

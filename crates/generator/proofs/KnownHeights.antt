@@ -5,7 +5,7 @@ use Prim.Native.Nat.{ℕ}
 use lib.Dec.{T, eqb}
 use lib.Ieee.{Float, binary32, ofBits, toBits, ofInt, toUnsigned, isNan, lt, le, neg, add, sub, mul, div}
 use Rattle.exact.specs.Value.{value}
-use Rattle.exact.specs.Binary32.{_⊗_, bits, zero₃₂, quarter₃₂, half₃₂, one₃₂}
+use Rattle.exact.specs.Binary32.{_⊗_, zero₃₂, quarter₃₂, half₃₂, one₃₂}
 use Rattle.math.specs.Horner.{horner}
 use Rattle.math.specs.Formulas.{clampOf, floorOf, fractOf, scaleOf, exp2Coefficients, exp2Within, exp2Of}
 use Rattle.math.proofs.Examples.{allPass}

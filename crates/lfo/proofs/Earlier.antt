@@ -11,7 +11,7 @@ use lib.IntN.{ℤ, pos, negsuc, _-ℤ_}
 use lib.Dec.{T, leb, leb→le, nleb→lt, lit<, lit≤}
 use lib.ListN.{getD}
 use lib.Pow.{pow-pos}
-use lib.Ieee.{Float, nan, inf, fin, binary32, up, down, ofBits, round, sum, neg, add, sub, lt, le, fits}
+use lib.Ieee.{Float, nan, inf, fin, binary32, up, down, ofBits, round, sum, neg, add, sub, le, fits}
 use lib.Ieee.Fits.{down-pos, sub-fits}
 use lib.Ieee.Order.{round-mono}
 use lib.Ieee.Scale.{finite, grid, round-same, round-under}

@@ -6,15 +6,15 @@ use native.Mathlib.Nat.{not-le-of-lt}
 use lib.Dec.{T, lit<}
 use lib.Signed.{leZ-yes}
 use lib.Ieee.{Float, binary32, ofBits, lt, le, fits}
-use lib.Ieee.Fits.{sub-fits, cond-fits}
+use lib.Ieee.Fits.{cond-fits}
 use lib.Ieee.Scale.{finite}
 use Rattle.exact.specs.Fraction.{Fraction, ratio, ltℚ, _≤ℚ_}
 use Rattle.exact.specs.Value.{value, Equal}
 use Rattle.exact.specs.Binary32.{zero₃₂, half₃₂, one₃₂}
 use Rattle.exact.proofs.Defined.{value-defined}
-use Rattle.exact.proofs.Order.{cross, ≤ℚ-parts, ltℚ-parts, equal-refl, lt-value, le-value}
+use Rattle.exact.proofs.Order.{cross, ≤ℚ-parts, ltℚ-parts, equal-refl, le-value}
 use Rattle.exact.proofs.Inequality.{nlt-le, lt-equal}
-use Rattle.math.specs.Formulas.{floorOf, fractOf}
+use Rattle.math.specs.Formulas.{fractOf}
 use Rattle.math.specs.Series.{fractℚ}
 use Rattle.math.proofs.Fold.{Turned, compared}
 use Rattle.math.proofs.Phase.{Phase, phase-finite, fract-fits, fract-turned}

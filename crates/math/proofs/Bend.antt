@@ -3,7 +3,7 @@ use mathlib.Core.Bool.{Bool, _&&_}
 use Prim.Native.Nat.{ℕ, _<_}
 use lib.IntN.{pos}
 use lib.Dec.{T}
-use lib.Ieee.{Float, binary32, ofBits, ofInt, le, lt, eq, add, sub, mul, div, round}
+use lib.Ieee.{Float, binary32, ofBits, ofInt, le, lt, eq, add, sub, mul, div}
 use lib.Ieee.Fits.{and-l, and-r}
 use Rattle.exact.specs.Value.{value}
 use Rattle.exact.specs.Binary32.{_⊖_, _⊘_, bits, quarter₃₂}

@@ -1,18 +1,18 @@
 -- exp2 IN BINARY32, through order 8, LIES WITHIN 11 * 2 ^ -24 OF THE EXACT 2 ^ s, through order 20, RELATIVELY, for every s from -25 to 25. In three stages: what s
 -- has above its floor z, its series, and the power of two. The first and the last are tested for every z by one computation each. Assumes nothing.
-use mathlib.Core.Path.{_≡_, refl, sym, subst, subst₂, _∙_, ap}
-use mathlib.Core.Bool.{Bool, true, false, not, cond}
+use mathlib.Core.Path.{_≡_, refl, subst, subst₂, ap}
+use mathlib.Core.Bool.{Bool, true, false, cond}
 use Prim.Native.Nat.{ℕ, suc, _+_, _*_, _^_, _<_, _≤_}
 use native.Mathlib.Nat.{le-of-mul-le-mul-right, lt-of-mul-lt-mul-right, mul-pos}
 use native.Mathlib.Omega.{arith}
 use lib.IntN.{ℤ, pos, negsuc, _+ℤ_, _*ℤ_}
-use lib.Dec.{T, lit<, lit≤}
+use lib.Dec.{T, lit≤}
 use lib.Pow.{pow-pos}
 use lib.Ieee.{Float, nan, inf, fin, binary32, up, down, ofInt, ofBits, fits, lt}
 use lib.Ieee.Fits.{down-pos}
 use lib.Ieee.Scale.{finite}
 use Rattle.exact.specs.Fraction.{Fraction, Defined, ratio, whole, powerOfTwo, floorℚ, absℚ, ltℚ, _+ℚ_, _-ℚ_, _*ℚ_, _≤ℚ_}
-use Rattle.exact.specs.Value.{value, Equal, Within, RelativelyWithin}
+use Rattle.exact.specs.Value.{value, Within, RelativelyWithin}
 use Rattle.exact.specs.Binary32.{_⊖_, _⊗_, bits}
 use Rattle.exact.proofs.Parts.{part⁺, part⁻, num⁺, num⁻, sum-parts}
 use Rattle.exact.proofs.Order.{≤ℚ-parts, parts-≤ℚ, ltℚ-parts, ≤ℚ-trans, equal-refl, lt-value, within-loosen}
@@ -25,7 +25,7 @@ use Rattle.exact.proofs.Soundness.{plainly}
 use Rattle.exact.proofs.Inputs.{one, one-input, exact-input, covers, concludes, concluded, bounded}
 use Rattle.math.specs.Horner.{horner, hornerℚ}
 use Rattle.math.specs.Formulas.{clampOf, floorOf, fractOf, scaleOf, exp2Coefficients, exp2Within, exp2Of}
-use Rattle.math.specs.Series.{terms, factorial, exp2Term, exp2Terms, exp2ℚ, fractℚ}
+use Rattle.math.specs.Series.{terms, factorial, exp2Term, exp2Terms, exp2ℚ}
 use Rattle.math.proofs.SeriesExpr.{polynomial, exactly, nearestTo}
 use Rattle.math.proofs.Every.{every, everyWhole, eachWhole}
 

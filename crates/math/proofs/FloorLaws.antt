@@ -1,14 +1,13 @@
 -- THE LAW OF floor: the floor of a finite x is the floor of its value, a whole number; it is not above x, and x is below the next whole number. Assumes nothing.
-use mathlib.Core.Path.{_≡_, sym, ap, _∙_}
 use mathlib.Core.Bool.{true, false, false≢true, true≢false}
-use Prim.Native.Nat.{ℕ, _+_, _*_}
+use Prim.Native.Nat.{_*_}
 use native.Mathlib.Omega.{arith}
 use lib.Dec.{T, lit<}
 use lib.IntN.{ℤ, pos, negsuc}
-use lib.Ieee.{Float, nan, inf, fin, binary32, up, down, fits}
+use lib.Ieee.{Float, nan, inf, fin, binary32, up, fits}
 use lib.Ieee.Fits.{down-pos}
 use lib.Ieee.Scale.{finite}
-use Rattle.exact.specs.Fraction.{Fraction, whole, floorℚ, ltℚ, _+ℚ_, _≤ℚ_}
+use Rattle.exact.specs.Fraction.{whole, floorℚ, ltℚ, _+ℚ_, _≤ℚ_}
 use Rattle.exact.specs.Value.{value, Equal}
 use Rattle.exact.proofs.Parts.{neg⁺, neg⁻}
 use Rattle.exact.proofs.Defined.{value-defined}

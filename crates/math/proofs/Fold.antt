@@ -2,7 +2,7 @@
 -- The differences are exact by Sterbenz's lemma, and the float comparisons are the exact comparisons. Assumes nothing.
 use mathlib.Core.Path.{_≡_, sym, ap, subst, _∙_}
 use mathlib.Core.Bool.{Bool, true, false, not, cond}
-use Prim.Native.Nat.{ℕ, _+_, _*_, _≤_, _<_}
+use Prim.Native.Nat.{ℕ, _+_, _*_, _≤_}
 use native.Mathlib.Omega.{arith}
 use lib.Signed.{leZ-yes}
 use lib.Dec.{T, lit<}

@@ -6,22 +6,22 @@ use mathlib.Core.Bool.{Bool, true, false, not, cond}
 use Prim.Native.Nat.{ℕ, zero, suc, _+_, _-_, _*_, _/_, _%_, _^_, _<_, _≤_}
 use native.Mathlib.Nat.{mul-pos, zero-lt-suc, mul-le-mul-right, le-of-mul-le-mul-right, lt-of-mul-lt-mul-right, mul-lt-mul-of-pos-right, lt-of-le-of-lt, le-div-iff-mul-le, div-lt-iff-lt-mul, pow-suc}
 use native.Mathlib.Omega.{arith}
-use lib.IntN.{ℤ, pos, negsuc, negℤ, subℕ, _-ℤ_, _*ℤ_}
+use lib.IntN.{ℤ, pos, negsuc, negℤ, _-ℤ_}
 use lib.Signed.{leZ-yes}
-use lib.Dec.{T, leb, ltb, lit<, lit≤, le→leb, nltb→le, ltb→lt, nleb→lt}
-use lib.Pow.{pow-pos, pow-mono}
+use lib.Dec.{T, leb, ltb, lit<, lit≤, ltb→lt, nleb→lt}
+use lib.Pow.{pow-pos}
 use lib.Ieee.{Float, binary32, size, ofInt, ofBits, toBits, fits, lt}
 use lib.Ieee.Bits.{ofBits-fits}
 use lib.Ieee.Digits.{size-lt, size-le}
 use lib.Ieee.Scale.{finite}
 use Rattle.exact.specs.Fraction.{Fraction, Defined, ratio, whole, powerOfTwo, over, ltℚ, _+ℚ_, _-ℚ_, _/ℚ_, _≤ℚ_}
 use Rattle.exact.specs.Value.{value, Equal, Within}
-use Rattle.exact.specs.Binary32.{_⊕_, _⊖_, _⊗_, _⊘_, bits, zero₃₂, one₃₂}
+use Rattle.exact.specs.Binary32.{_⊕_, _⊖_, _⊘_, bits, zero₃₂, one₃₂}
 use Rattle.exact.proofs.Parts.{part⁺, part⁻, num⁺, num⁻, scale⁺, scale⁻, sum-parts, difference-parts}
 use Rattle.exact.proofs.Defined.{value-defined}
 use Rattle.exact.proofs.Order.{≤ℚ-parts, ≤ℚ-trans, lt-value}
 use Rattle.exact.proofs.Inequality.{nlt-le}
-use Rattle.exact.proofs.Quanta.{HasQuanta, in-format, nonnegative-quanta, quanta-value, quanta-defined, equal-of-quanta}
+use Rattle.exact.proofs.Quanta.{in-format, nonnegative-quanta, quanta-value, quanta-defined, equal-of-quanta}
 use Rattle.exact.proofs.Operations.{quanta-same}
 use Rattle.exact.proofs.Analyser.{Bound, Expr, var, constant, approx, plus, minus, times, quotient, Approximates, Lower, Upper, Facts, analyse, plain, evalFloat, evalExact}
 use Rattle.exact.proofs.Soundness.{plainly}

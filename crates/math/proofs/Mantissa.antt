@@ -1,6 +1,6 @@
 -- MANTISSA AND EXPONENT BY BITS, as `log2` takes them, of a float from 1 to below 2 ^ 28: with the bits b the exponent e is b / 2 ^ 23 - 127, the mantissa has
 -- the digits b % 2 ^ 23 under a field of 127, and the float is the mantissa, from 1 to below 2, times 2 ^ e. Assumes nothing.
-use mathlib.Core.Path.{_≡_, refl, sym, ap, subst, subst₂, _∙_}
+use mathlib.Core.Path.{_≡_, sym, ap, subst, subst₂, _∙_}
 use mathlib.Core.Bool.{Bool, true, false, cond}
 use Prim.Native.Nat.{ℕ, zero, suc, _+_, _-_, _*_, _/_, _%_, _^_, _≤_, _<_}
 use native.Mathlib.Nat.{lt-of-lt-of-le, lt-of-le-of-lt, lt-of-not-le, not-le-of-lt, mul-pos, mul-lt-mul-of-pos-right, mod-lt, mod-eq-of-lt, mul-div-cancel, le-div-iff-mul-le}

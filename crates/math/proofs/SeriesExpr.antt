@@ -1,12 +1,11 @@
 -- A POLYNOMIAL FOR THE ANALYSER: the float coefficients that are computed beside the exact ones that are meant, which may be more. The last float
 -- coefficient stands for the rest of the exact series. Definitions only.
 use mathlib.Core.List.{List, [], _∷_}
-use Prim.Native.Nat.{ℕ}
 use lib.IntN.{natAbs}
 use lib.Signed.{nonNeg}
 use mathlib.Core.Bool.{not}
-use lib.Ieee.{Float, Format, binary32, round}
-use Rattle.exact.specs.Fraction.{Fraction, ratio}
+use lib.Ieee.{Float, binary32, round}
+use Rattle.exact.specs.Fraction.{Fraction}
 use Rattle.exact.specs.Binary32.{zero₃₂}
 use Rattle.exact.proofs.Analyser.{Expr, constant, approx, plus, times, truncated}
 

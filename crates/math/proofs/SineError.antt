@@ -3,7 +3,7 @@
 -- both sides work on the same quarter turn; the series is one computed test of the analyser for each sign. Assumes nothing.
 use mathlib.Core.Path.{_≡_, refl, subst₂}
 use mathlib.Core.Bool.{Bool, true, false, cond}
-use Prim.Native.Nat.{ℕ, _-_, _*_, _+_, _^_}
+use Prim.Native.Nat.{_-_, _*_, _^_}
 use lib.IntN.{pos, negsuc}
 use lib.Dec.{T, lit<, lit≤}
 use lib.Ieee.{Float, binary32, ofBits, neg, fits}

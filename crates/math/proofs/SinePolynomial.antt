@@ -1,7 +1,7 @@
 -- THE SINE'S SERIES AT AN ANGLE IS AT MOST 1 + 321 / 10 ^ 8, where its terms from order 9 up are at most 274 / 10 ^ 8 times the angle's power. What is left is a polynomial of order 9 in
 -- the angle a; by x = 226 a and y = 355 - 226 a (355 / 226 is just above a quarter turn) its distance to the bound has no negative coefficient. Assumes nothing.
 use mathlib.Core.Path.{_≡_, refl, sym, ap, subst, subst₂, _∙_}
-use Prim.Native.Nat.{ℕ, _+_, _-_, _*_, _/_, _^_, _≤_, _<_}
+use Prim.Native.Nat.{ℕ, _+_, _-_, _*_, _^_, _≤_, _<_}
 use native.Mathlib.Nat.{mul-pos, mul-le-mul-right, le-of-mul-le-mul-right}
 use native.Mathlib.Omega.{arith}
 use lib.Dec.{lit<, lit≤}
@@ -9,7 +9,6 @@ use Rattle.exact.specs.Fraction.{Fraction, ratio, _+ℚ_, _*ℚ_, _≤ℚ_}
 use Rattle.exact.proofs.Close.{ring, semiring}
 use Rattle.exact.proofs.Parts.{num⁺, num⁻, times⁺, times⁻, sum-parts}
 use Rattle.exact.proofs.Order.{parts-≤ℚ}
-use Rattle.exact.proofs.Analyser.{times}
 use Rattle.math.specs.Horner.{hornerℚ}
 use Rattle.math.specs.Series.{terms, factorial, sineTerm, sineTerms, sineOfAngleℚ}
 

@@ -2,7 +2,7 @@
 use mathlib.Core.Path.{_≡_}
 use lib.Dec.{T}
 use lib.Ieee.{Float, binary32, fits, lt, le}
-use Rattle.exact.specs.Binary32.{bits, zero₃₂, quarter₃₂, half₃₂, one₃₂}
+use Rattle.exact.specs.Binary32.{bits, zero₃₂, quarter₃₂, one₃₂}
 use Rattle.curve.proofs.Positions.{Level}
 use Rattle.settings.specs.declared.Envelope.{Envelope}
 use Rattle.settings.specs.declared.Lfo.{Lfo}

@@ -1,5 +1,5 @@
 -- `agree` BY THE TESTS OF THE CODE: the first is a NaN or it is not. Assumes nothing.
-use mathlib.Core.Path.{_≡_, refl, sym, subst}
+use mathlib.Core.Path.{_≡_, refl, subst}
 use mathlib.Core.Bool.{true, false}
 use lib.Ieee.{Float, ne, eq}
 use Rattle.math.proofs.Nan.{is-nan}

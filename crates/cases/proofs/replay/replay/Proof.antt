@@ -2,7 +2,6 @@
 use Prim.Native.Nat.{_-_}
 use lib.ListN.{length}
 use native.Mathlib.Omega.{arith}
-use borrow.Author.Needs.{needs}
 use Rattle.cases.proofs.replay.replay.Statement.{statement}
 use Rattle.cases.proofs.replay.replay.Tie as tie
 
