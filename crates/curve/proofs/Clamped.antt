@@ -10,7 +10,7 @@ use Rattle.exact.proofs.Defined.{value-defined}
 use Rattle.exact.proofs.Order.{equal-sym, within-equal-left}
 use Rattle.exact.proofs.Lipschitz.{unit-within, unit-value}
 use Rattle.math.specs.Formulas.{clampOf}
-use Rattle.curve.specs.Curve.{unitOf, Drawn}
+use Rattle.curve.specs.Curve.{unitOf, drawnOf, Drawn}
 use Rattle.curve.proofs.Positions.{unit-level}
 
 number : (x : Float) → T (finite x) → T (not (isNan x))
@@ -24,7 +24,8 @@ unit-is : (x : Float) → T (finite x) → Equal (value (unitOf x)) (unitℚ (va
 unfolding clampOf ofBits
 unit-is x h = unit-value x h
 
-pub drawn-near : (x : Float) (X : Fraction) (r s : ℕ) → T (fits binary32 x) → Within (value x) X (ratio r s) → Drawn (unitOf x) (unitℚ X) (ratio r s)
+pub drawn-near : (x : Float) (X : Fraction) (r s : ℕ) → T (fits binary32 x) → Within (value x) X (ratio r s) → Drawn (drawnOf x .height) (unitℚ X) (ratio r s)
+unfolding drawnOf
 drawn-near x X r s f h =
     let t = value-defined x .0 (h .left) in
     let l = unit-level x f (number x t) in

@@ -9,7 +9,7 @@ use Rattle.exact.specs.Binary32.{_⊗_, zero₃₂, quarter₃₂, half₃₂, 
 use Rattle.math.specs.Horner.{horner}
 use Rattle.math.specs.Formulas.{clampOf, floorOf, fractOf, scaleOf, exp2Coefficients, exp2Within, exp2Of}
 use Rattle.math.proofs.Examples.{allPass}
-use Rattle.curve.specs.Curve.{unitOf, positionOf, drawnOf}
+use Rattle.curve.specs.Curve.{positionOf, drawnOf}
 use Rattle.settings.specs.declared.LfoShape.{LfoShape}
 use Rattle.settings.specs.declared.LfoShape.the-variants.{Triangle, Square, RampUp, SampleAndHold, SampleAndGlide}
 use Rattle.settings.specs.Settings.{byteOf, totalOf, firstOf, secondOf, thirdOf, slopeOf, sloped, sustainEndOf, bendOf, envelopeOf, turnsOf, fadeOf, depthOf, widthOf, sweepOf, oscillatorOneOf, oscillatorTwoOf}
@@ -19,7 +19,7 @@ use Rattle.lfo.specs.Formula.{wrapOf, samples, sampleOf, indexOf, sampledOf, tr
 
 -- the height of a shape at slew 0
 unslewed : LfoShape → Float → Float
-unslewed s t = unitOf (shapeAtOf s (positionOf t ⊗ turnsOf s))
+unslewed s t = drawnOf (shapeAtOf s (positionOf t ⊗ turnsOf s)) .height
 
 -- the envelope whose times are 0 and whose sustain is 255, by its sustain's curve
 held : ℕ → Float → Float

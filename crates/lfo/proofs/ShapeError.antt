@@ -17,7 +17,7 @@ use Rattle.exact.proofs.Order.{≤ℚ-trans, parts-≤ℚ, sum-raise-left}
 use Rattle.exact.proofs.Inequality.{minus-at-most}
 use Rattle.exact.proofs.Analyser.{Approximates, Lower, Upper}
 use Rattle.exact.proofs.Inputs.{relax, result}
-use Rattle.curve.specs.Curve.{positionOf, unitOf, Drawn}
+use Rattle.curve.specs.Curve.{positionOf, drawnOf, Drawn}
 use Rattle.curve.proofs.Clamped.{drawn-near}
 use Rattle.math.specs.Formulas.{fractOf, sinTurnsOf}
 use Rattle.math.proofs.Phase.{Phase}
@@ -126,7 +126,7 @@ reached SampleAndHold h = tt
 reached SampleAndGlide {p} h = ≤ℚ-trans (value p) (ratio 6 1) (ratio 16777216 1) (lit< tt) (h .to) (leZ-yes tt)
 
 pub shape-drawn : (s : LfoShape) (t : Float) → T (fits binary32 t)
-    → Drawn (unitOf (shapeAtOf s (positionOf t ⊗ turnsOf s))) (unitℚ (shapeℚ s (value (positionOf t ⊗ turnsOf s)))) (ratio 1 262144)
+    → Drawn (drawnOf (shapeAtOf s (positionOf t ⊗ turnsOf s)) .height) (unitℚ (shapeℚ s (value (positionOf t ⊗ turnsOf s)))) (ratio 1 262144)
 shape-drawn s t f =
     let p = positionOf t ⊗ turnsOf s in
     let w = position-spanned s t f in
