@@ -267,7 +267,7 @@ impl Generator {
 }
 
 // ---- marks
-fn no_marks() -> Marks
+pub fn no_marks() -> Marks
     ensures { λ r. ⌜ r ≡ noMarks ⌝ }
 {
     let unused = Mark {
@@ -281,7 +281,7 @@ fn no_marks() -> Marks
 }
 
 // One mark more; a full record stays as it is.
-fn push(marks: Marks, at: f32, kind: MarkKind) -> Marks
+pub fn push(marks: Marks, at: f32, kind: MarkKind) -> Marks
     ensures { λ r. ⌜ r ≡ pushed marks (markOf at kind) ⌝ }
 {
     let n = marks.count;

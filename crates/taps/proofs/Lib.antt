@@ -1,0 +1,7 @@
+-- How many taps are used; the maximum of two floats; where the height of an impulse train lies, and how near it is to its exact height; and trains held against the Rust.
+pub mod UsedTaps
+pub mod Maximum
+pub mod Ranges
+pub mod EveryTaps
+pub mod TapsError
+pub mod Examples

@@ -1,0 +1,69 @@
+-- `taps_level` is `tapsLevelOf` of all the taps that are used. The loop's invariant: the height so far is that of the first i taps. Assumes nothing.
+use Prim.Native.Nat.{_-_, _≤_}
+use mathlib.Core.Path.{_≡_, refl, ap, _∙_}
+use borrow.Author.Needs.{needs}
+use native.Mathlib.Numerals.{add-one}
+use native.Mathlib.Omega.{arith}
+use Rattle.taps.specs.Formula.{usedOf, tapsLevelOf}
+use Rattle.taps.proofs.UsedTaps.{used-at-most, all-used}
+use Rattle.taps.proofs.taps_level.Statement.{statement}
+use Rattle.taps.proofs.taps_level.Tie as tie
+
+abbrev Inv-loop : tie.InvT-loop
+Inv-loop t taps count height₀ i₀ height i = (i ≤ count) × (count ≤ 4) × (count ≡ usedOf taps) × (height ≡ tapsLevelOf taps t i)
+
+abbrev μ-loop : tie.MeasureT-loop
+μ-loop t taps count height₀ i₀ height i = count - i
+
+used-requires : tie.Need-used-requires Inv-loop μ-loop
+used-requires c κs = search needs
+
+loop-holds : tie.Need-loop-holds Inv-loop μ-loop
+unfolding tapsLevelOf
+loop-holds c = (search needs, omega (arith, c .used .ensures, used-at-most (c .before .args .t1)), c .used .ensures, refl)
+
+mul-tap-height : tie.Need-mul-tap-height Inv-loop μ-loop
+mul-tap-height c = search needs
+
+element-copy-out-tap-height : tie.Need-element-copy-out-tap-height Inv-loop μ-loop
+element-copy-out-tap-height c = search needs
+
+mul-tap-height-2 : tie.Need-mul-tap-height-2 Inv-loop μ-loop
+mul-tap-height-2 c = search needs
+
+element-copy-out-tap-height-2 : tie.Need-element-copy-out-tap-height-2 Inv-loop μ-loop
+element-copy-out-tap-height-2 c = search needs
+
+tap-height-requires : tie.Need-tap-height-requires Inv-loop μ-loop
+tap-height-requires c κs = search needs
+
+add-i : tie.Need-add-i Inv-loop μ-loop
+add-i c = search needs
+
+loop-less : tie.Need-loop-less Inv-loop μ-loop
+loop-less c = search needs
+
+loop-again : tie.Need-loop-again Inv-loop μ-loop
+unfolding tapsLevelOf
+loop-again c = (search needs, search needs, c .before .before .before .before .loop .inv .2, simp (add-one, c .tap-height .ensures, c .before .before .before .before .loop .inv .3))
+
+returns : tie.Need-returns Inv-loop μ-loop
+returns c = c .before .loop .inv .3 ∙ ap (tapsLevelOf (c .before .before .before .args .t1) (c .before .before .before .args .t)) (all-used (c .before .loop .inv .0) (c .loop-test .left) (c .before .loop .inv .2))
+
+pub taps-level-spec : {M : Type 1} → statement M
+taps-level-spec =
+    tie.close
+    (tie.spec
+    Inv-loop
+    μ-loop
+    used-requires
+    loop-holds
+    mul-tap-height
+    element-copy-out-tap-height
+    mul-tap-height-2
+    element-copy-out-tap-height-2
+    tap-height-requires
+    add-i
+    loop-less
+    loop-again
+    returns)

@@ -1,0 +1,107 @@
+// The impulse train of a delay: a spike at each of its taps.
+ghost use mathlib.Core.Path.{_≡_};
+ghost use mathlib.Core.Bool.{true};
+ghost use Rattle.exact.specs.Binary32.{zero₃₂};
+ghost use Rattle.generator.specs.Marks.{stored};
+ghost use Rattle.taps.specs.Formula.{usedOf, tapHeightOf, tapsLevelOf, tapsHeightOf};
+ghost use Rattle.taps.specs.Marks.{tapMarks};
+use curve::Height;
+use curve::drawn;
+use curve::position;
+use generator::MarkKind;
+use generator::Marks;
+use generator::Scale;
+use generator::no_marks;
+use generator::push;
+use math::abs;
+use math::max;
+
+// The most taps that a delay has.
+pub const MAX_TAPS: usize = 4;
+
+// Half the width of a tap, as a part of the whole.
+const WIDTH: f32 = 0.014;
+
+// Where each tap falls and how tall it is; the first `used` of them are taps.
+pub struct Taps {
+    pub at: [f32; MAX_TAPS],
+    pub tall: [f32; MAX_TAPS],
+    pub used: usize,
+}
+
+// How many taps are used: never more than there are.
+fn used(taps: Taps) -> usize
+    ensures { λ r. ⌜ r ≡ usedOf taps ⌝ }
+{
+    if taps.used < MAX_TAPS {
+        return taps.used;
+    }
+    MAX_TAPS
+}
+
+// The height so far, or the tap's where that is larger.
+fn tap_height(at: f32, tall: f32, t: f32, height: f32) -> f32
+    ensures { λ r. ⌜ r ≡ tapHeightOf at tall t height ⌝ }
+{
+    let distance = abs(t - at);
+    if distance < WIDTH {
+        return max(height, tall * (1.0 - distance / WIDTH));
+    }
+    height
+}
+
+// The largest of the taps' heights, from 0 on.
+fn taps_level(taps: Taps, t: f32) -> f32
+    ensures { λ r. ⌜ r ≡ tapsLevelOf taps t (usedOf taps) ⌝ }
+{
+    let count = used(taps);
+    let mut height: f32 = 0.0;
+    let mut i: usize = 0;
+    while i < count {
+        height = tap_height(taps.at[i], taps.tall[i], t, height);
+        i += 1;
+    }
+    height
+}
+
+// The height of an impulse train.
+pub fn taps_height(taps: Taps, t: f32) -> Height
+    ensures { λ r. ⌜ r ≡ tapsHeightOf taps t ⌝ }
+{
+    drawn(taps_level(taps, position(t)))
+}
+
+// A mark at each tap, wherever it falls.
+pub fn taps_marks(taps: Taps) -> Marks
+    ensures { λ r. ⌜ r ≡ stored (tapMarks taps (usedOf taps)) ⌝ }
+{
+    let count = used(taps);
+    let mut marks = no_marks();
+    let mut i: usize = 0;
+    while i < count {
+        marks = push(marks, taps.at[i], MarkKind::Tap);
+        i += 1;
+    }
+    marks
+}
+
+// The height where there is no tap.
+pub fn taps_rest() -> f32
+    ensures { λ r. ⌜ r ≡ zero₃₂ ⌝ }
+{
+    0.0
+}
+
+// No measure of the horizontal is published.
+pub fn taps_scale() -> Scale
+    ensures { λ r. ⌜ r ≡ Scale.Normalised ⌝ }
+{
+    Scale::Normalised
+}
+
+// The left edge is a moment.
+pub fn taps_anchored() -> bool
+    ensures { λ r. ⌜ r ≡ true ⌝ }
+{
+    true
+}
