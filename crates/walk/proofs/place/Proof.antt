@@ -1,0 +1,17 @@
+-- `place` is `placeOf`: the constant is the step, 1 / 96 rounded. Assumes nothing.
+use mathlib.Core.Path.{refl}
+use lib.Ieee.{ofBits, neg, div}
+use Rattle.walk.specs.Formula.{stepOf, placeOf}
+use borrow.Author.Needs.{needs}
+use Rattle.walk.proofs.place.Statement.{statement}
+use Rattle.walk.proofs.place.Tie as tie
+
+int-to-float-result : tie.Need-int-to-float-result
+int-to-float-result c = search needs
+
+returns : tie.Need-returns
+unfolding stepOf placeOf ofBits neg div
+returns c = refl
+
+pub place-spec : {M : Type 1} → statement M
+place-spec = tie.close (tie.spec int-to-float-result returns)

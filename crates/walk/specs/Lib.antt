@@ -1,0 +1,3 @@
+-- The slew walk, in binary32 and exactly.
+pub mod Formula
+pub mod Exact
