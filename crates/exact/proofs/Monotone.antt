@@ -5,7 +5,7 @@ use mathlib.Core.Path.{_≡_, refl, sym, subst}
 use mathlib.Core.Logic.{_⊎_, inl, inr}
 use mathlib.Core.Bool.{Bool, true, false, not, cond, true≢false}
 use Prim.Native.Nat.{ℕ, zero, suc, _+_, _*_, _^_, _≤_, _<_}
-use native.Mathlib.Nat.{le-refl, le-of-eq, mul-pos, mul-le-mul-right, le-of-mul-le-mul-right}
+use native.Mathlib.Nat.{le-refl, le-of-eq, mul-pos, mul-le-mul-right}
 use native.Mathlib.Omega.{arith}
 use lib.IntN.{ℤ, pos}
 use lib.Dec.{T, ltb, eqb, eqb·suc-zero, lt→ltb, ltb→lt}
@@ -19,7 +19,7 @@ use Rattle.exact.specs.Fraction.{whole, _≤ℚ_}
 use Rattle.exact.specs.Value.{value}
 use Rattle.exact.proofs.Close.{ring, Split, less, more, split}
 use Rattle.exact.proofs.Defined.{value-defined}
-use Rattle.exact.proofs.Order.{≤ℚ-parts, parts-≤ℚ, ≤ℚ-trans, le-value}
+use Rattle.exact.proofs.Order.{≤ℚ-parts, parts-≤ℚ, ≤ℚ-trans, le-value, le-trans}
 use Rattle.exact.proofs.Quanta.{in-format, nonnegative-quanta}
 
 -- ---- floats with no sign
@@ -74,12 +74,6 @@ cross-le x y u v h = le-of-values x y (num x) (den x) (num y) (den y) (den-pos x
 
 pub le-self : (x : Float) → T (unsigned x) → T (le x x)
 le-self x u = cross-le x x u u (le-refl (num x * den x))
-
-pub le-through : (x y z : Float) → T (unsigned x) → T (unsigned y) → T (unsigned z) → T (le x y) → T (le y z) → T (le x z)
-le-through x y z u v w h k = cross-le x z u w (core (num x) (den x) (num y) (den y) (num z) (den z) (den-pos y) (le-cross x y u v h) (le-cross y z v w k))
-  where
-    core : (a c b d p q : ℕ) → 0 < d → a * d ≤ b * c → b * q ≤ p * d → a * q ≤ p * c
-    core a c b d p q D h k = le-of-mul-le-mul-right (omega (arith, mul-le-mul-right q h, mul-le-mul-right c k)) D
 
 pub le-either : (x y : Float) → T (unsigned x) → T (unsigned y) → T (le x y) ⊎ T (le y x)
 le-either x y u v = go (split (num x * den y) (num y * den x))
@@ -140,7 +134,7 @@ round-at-most f x a c u t C h =
     let v = own-rounded f x u t in
     let l = round-mono f a c (num x) (den x) C (den-pos x) h in
     let uw = of-value w (num x) (den x) v in
-    le-through (round f false a c) w x (round-unsigned f a c w (unsigned-finite w uw) l) uw u l (cross-le w x uw u (le-of-eq (same-size x w u v)))
+    le-trans (round f false a c) w x l (cross-le w x uw u (le-of-eq (same-size x w u v)))
 
 -- what is at least w is at least x, where x ≤ w
 le-lower : (x w z : Float) → T (unsigned x) → T (unsigned w) → num x * den w ≤ num w * den x → T (le w z) → T (le x z)

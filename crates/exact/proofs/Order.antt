@@ -286,3 +286,49 @@ between-finite nan (inf true) (fin t n d) a b h k = absurd a
 between-finite (inf r) (inf true) (fin t n d) a b h k = absurd a
 between-finite (fin r m e) (inf true) (fin t n d) a b h k = absurd h
 between-finite lo (fin s m e) hi a b h k = tt
+
+-- ---- `le` of floats is transitive, by what stands between: a NaN is at most nothing, only -infinity is at most -infinity, and +infinity at most only +infinity
+past-nan : (x : Float) → T (le x nan) → ⊥
+unfolding le lt eq
+past-nan nan h = h
+past-nan (inf s) h = h
+past-nan (fin s m e) h = h
+
+past-bottom : (x z : Float) → T (le x (inf true)) → T (le (inf true) z) → T (le x z)
+unfolding le lt eq
+past-bottom nan z h k = absurd h
+past-bottom (inf true) z h k = k
+past-bottom (inf false) z h k = absurd h
+past-bottom (fin s m e) z h k = absurd h
+
+past-top : (x z : Float) → T (le x (inf false)) → T (le (inf false) z) → T (le x z)
+unfolding le lt eq
+past-top x nan h k = absurd k
+past-top x (inf true) h k = absurd k
+past-top x (inf false) h k = h
+past-top x (fin s m e) h k = absurd k
+
+past-number : (x y z : Float) → T (finite y) → T (le x y) → T (le y z) → T (le x z)
+unfolding le lt eq
+past-number x nan z f h k = absurd f
+past-number x (inf s) z f h k = absurd f
+past-number nan (fin t n d) z f h k = absurd h
+past-number (inf false) (fin t n d) z f h k = absurd h
+past-number (inf true) (fin t n d) nan f h k = absurd k
+past-number (inf true) (fin t n d) (inf true) f h k = absurd k
+past-number (inf true) (fin t n d) (inf false) f h k = tt
+past-number (inf true) (fin t n d) (fin r o c) f h k = tt
+past-number (fin s m e) (fin t n d) nan f h k = absurd k
+past-number (fin s m e) (fin t n d) (inf true) f h k = absurd k
+past-number (fin s m e) (fin t n d) (inf false) f h k = tt
+past-number (fin s m e) (fin t n d) (fin r o c) f h k =
+    let x = fin s m e in
+    let y = fin t n d in
+    let z = fin r o c in
+    le-value x z tt tt .1 (≤ℚ-trans (value x) (value y) (value z) (value-defined y .1 tt) (le-value x y tt tt .0 h) (le-value y z tt tt .0 k))
+
+pub le-trans : (x y z : Float) → T (le x y) → T (le y z) → T (le x z)
+le-trans x nan z h k = absurd (past-nan x h)
+le-trans x (inf true) z h k = past-bottom x z h k
+le-trans x (inf false) z h k = past-top x z h k
+le-trans x (fin s m e) z h k = past-number x (fin s m e) z tt h k

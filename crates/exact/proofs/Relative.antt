@@ -155,7 +155,7 @@ nonzero zero e Q E t w O C W k = absurd (none (Q * e * w) E (t + w) (mul-pos (mu
     none x E u h k = omega arith
 nonzero (suc q) e Q E t w O C W k = zero-lt-suc q
 
-negated : (p n d P N D r s : ℕ) → Relatively p n d P N D r s → Relatively n p d N P D r s
+pub negated : (p n d P N D r s : ℕ) → Relatively p n d P N D r s → Relatively n p d N P D r s
 negated p n d P N D r s h = omega arith
 
 opposite : (q Q e E t w : ℕ) → 0 < Q → 0 < e → 0 < w → (q * E + Q * e) * (t + w) ≤ (0 * E + 0 * e) * (t + w) + t * (0 + Q) * e → ⊥

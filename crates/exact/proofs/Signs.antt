@@ -13,7 +13,7 @@ use Rattle.exact.proofs.Close.{ring}
 use Rattle.exact.proofs.Parts.{part⁺, part⁻, num⁺, num⁻, scale⁺, scale⁻, abs-parts, OneSided, up, down, one-sided, difference-parts}
 use Rattle.exact.proofs.Order.{≤ℚ-parts, parts-≤ℚ, ltℚ-parts}
 use Rattle.exact.proofs.Inequality.{parts-ltℚ}
-use Rattle.exact.proofs.Relative.{Relatively, relative-across, over-positive}
+use Rattle.exact.proofs.Relative.{Relatively, relative-across, over-positive, negated}
 
 -- ---- a fraction above 0
 abbrev pub Positive : Fraction → Type 0
@@ -105,9 +105,6 @@ same-sign p n d P N D r s E S l o h k = le-of-mul-le-mul-right {m = p} {n = n} (
     core : P ≡ 0 → p * (D * s) ≤ n * (D * s)
     core e = omega (arith, k .le, mul-le-mul-right (N * d) l, ap (λ (x : ℕ). x * (d * s)) e, ap (λ (x : ℕ). x * (d * r)) e)
 
-mirrored : (p n d P N D r s : ℕ) → Relatively p n d P N D r s → Relatively n p d N P D r s
-mirrored p n d P N D r s h = omega arith
-
 turned : {p n : ℕ} → OneSided p n → OneSided n p
 turned (up e) = down e
 turned (down e) = up e
@@ -129,7 +126,7 @@ relative-nonnegative a b r s S l h k =
     parts-≤ℚ (ratio 0 1) a
     (out (num⁺ a) (num⁻ a) (a .den)
     (same-sign (num⁻ a) (num⁺ a) (a .den) (num⁻ b) (num⁺ b) (b .den) r s (h .right) S l (turned (one-sided (b .num))) (into (num⁺ b) (num⁻ b) (b .den) (≤ℚ-parts (ratio 0 1) b k))
-    (mirrored (num⁺ a) (num⁻ a) (a .den) (num⁺ b) (num⁻ b) (b .den) r s (relative-across a b r s h))))
+    (negated (num⁺ a) (num⁻ a) (a .den) (num⁺ b) (num⁻ b) (b .den) r s (relative-across a b r s h))))
   where
     into : (P N D : ℕ) → 0 * D + N * 1 ≤ P * 1 + 0 * D → N ≤ P
     into P N D h = omega arith

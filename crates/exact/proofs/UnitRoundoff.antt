@@ -111,7 +111,7 @@ signed-product s t a b =
     go true false = omega arith
     go true true = omega arith
 
-neither : (b s : Bool) → T (finite (cond b nan (inf s))) → ⊥
+pub neither : (b s : Bool) → T (finite (cond b nan (inf s))) → ⊥
 neither true s t = t
 neither false s t = t
 

@@ -1,9 +1,10 @@
--- A test for a NaN by `x != x`. Assumes nothing.
+-- A test for a NaN by `x != x`, and what is none. Assumes nothing.
 use mathlib.Core.Path.{_≡_, refl, sym, _∙_, subst}
 use mathlib.Core.Bool.{Bool, true, false, not}
 use Prim.Native.Nat.{_*_}
 use lib.Dec.{T}
 use lib.Ieee.{Float, nan, inf, fin, up, down, ne, isNan}
+use lib.Ieee.Scale.{finite}
 use borrow.Author.Tests.{eq-eqb}
 
 ne-self : (x : Float) → ne x x ≡ isNan x
@@ -19,3 +20,9 @@ is-nan b x h = sym (ne-self x) ∙ h
 
 pub not-nan : (x : Float) → isNan x ≡ false → T (not (isNan x))
 not-nan x h = subst (λ (b : Bool). T (not b)) (sym h) tt
+
+pub finite-number : (x : Float) → T (finite x) → isNan x ≡ false
+unfolding isNan
+finite-number nan h = absurd h
+finite-number (inf s) h = absurd h
+finite-number (fin s m e) h = refl

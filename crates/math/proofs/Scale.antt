@@ -1,9 +1,8 @@
 -- 2 TO A WHOLE POWER, by the exponent's field, for each whole number z from -126 to 127; and x clamped to -126..127 has such a floor. Assumes nothing.
 use mathlib.Core.Path.{_≡_, refl, sym, ap, _∙_, subst}
-use mathlib.Core.Logic.{_⊎_, inl, inr}
 use mathlib.Core.Bool.{Bool, true, false, not, cond, _&&_, true≢false}
 use Prim.Native.Nat.{ℕ, zero, suc, _*_, _≤_, _<_}
-use native.Mathlib.Nat.{mul-one, le-of-suc-le-suc, eq-or-lt-of-le, div-lt-iff-lt-mul}
+use native.Mathlib.Nat.{mul-one, div-lt-iff-lt-mul}
 use native.Mathlib.Omega.{arith}
 use lib.Dec.{T, eqb, ltb, eqb→eq, ltb→lt, lt→ltb, le→leb}
 use lib.IntN.{ℤ, pos, negsuc, negℤ, natAbs, _+ℤ_}
@@ -19,20 +18,7 @@ use Rattle.exact.specs.Fraction.{floorOver, floorℚ}
 use Rattle.exact.specs.Value.{value}
 use Rattle.exact.specs.Binary32.{bits}
 use Rattle.math.specs.Formulas.{clampOf, floorOf, scaleOf}
-
--- ---- a test of every number below n
-every : (ℕ → Bool) → ℕ → Bool
-every test zero = true
-every test (suc n) = test n && every test n
-
-each : (test : ℕ → Bool) (n i : ℕ) → T (every test n) → i < n → T (test i)
-unfolding every
-each test zero i t h = absurd (omega arith)
-each test (suc n) i t h = go (eq-or-lt-of-le (le-of-suc-le-suc h)) (λ l. each test n i (and-r (test n) (every test n) t) l)
-  where
-    go : (i ≡ n) ⊎ (i < n) → (i < n → T (test i)) → T (test i)
-    go (inl e) k = subst (λ (j : ℕ). T (test j)) (sym e) (and-l (test n) (every test n) t)
-    go (inr l) k = k l
+use Rattle.math.proofs.Every.{every, each}
 
 -- ---- the field of z, as an i32 and as a u32
 abbrev sum : ℤ → ℤ

@@ -13,7 +13,8 @@ use lib.Ieee.Fits.{add-fits, div-fits}
 use lib.Ieee.Positive.{num, den, den-pos, positive}
 use Rattle.exact.specs.Binary32.{_⊕_, _⊘_, bits, zero₃₂, half₃₂, one₃₂}
 use Rattle.exact.proofs.Close.{ring}
-use Rattle.exact.proofs.Monotone.{unsigned, unsigned-finite, le-cross, le-self, le-through, le-either, positive-above, add-mono, add-unsigned, add-from-left, add-from-right, div-at-most, div-unsigned}
+use Rattle.exact.proofs.Order.{le-trans}
+use Rattle.exact.proofs.Monotone.{unsigned, unsigned-finite, le-cross, le-self, le-either, positive-above, add-mono, add-unsigned, add-from-left, add-from-right, div-at-most, div-unsigned}
 use Rattle.math.proofs.Every.{every, each}
 use Rattle.settings.specs.Settings.{byteOf, totalOf}
 use Rattle.settings.proofs.Bytes.{unit-unsigned, unit-to-one, from-zero, byte-unit, byte-holds}
@@ -90,14 +91,14 @@ totals {a} {d} {r} ha hd hr =
     let s₃ = sum-under s₂ (width-under hr) tt in
     let t = total a d r in
     let l = add-from-left binary32 (held a d) r (s₂ .plain) (hr .plain) (add-fits binary32 (a ⊕ d) half₃₂) in
-    let h = le-through half₃₂ (held a d) t tt (s₂ .plain) (s₃ .plain) (add-from-right binary32 (a ⊕ d) half₃₂ (s₁ .plain) tt tt) l in
+    let h = le-trans half₃₂ (held a d) t (add-from-right binary32 (a ⊕ d) half₃₂ (s₁ .plain) tt tt) l in
     record {
       is = record { plain = s₃ .plain; above = positive-above half₃₂ t tt tt (s₃ .plain) h };
       both-plain = s₁ .plain;
       held-plain = s₂ .plain;
       attack = add-from-left binary32 a d (ha .plain) (hd .plain) (ha .holds);
       decay = add-from-right binary32 a d (ha .plain) (hd .plain) (hd .holds);
-      both = le-through (a ⊕ d) (held a d) t (s₁ .plain) (s₂ .plain) (s₃ .plain) (add-from-left binary32 (a ⊕ d) half₃₂ (s₁ .plain) tt (add-fits binary32 a d)) l;
+      both = le-trans (a ⊕ d) (held a d) t (add-from-left binary32 (a ⊕ d) half₃₂ (s₁ .plain) tt (add-fits binary32 a d)) l;
       half = h;
       rest = l;
     }
@@ -151,14 +152,14 @@ ends-by {a} {d} {t} {p} {q} {o} x y z u v l =
       from = from-zero (a ⊘ t) (x .plain);
       first-second = add-from-left binary32 (a ⊘ t) (d ⊘ t) (x .plain) (y .plain) (div-fits binary32 a t);
       second-third = add-from-left binary32 (second a d t) (half₃₂ ⊘ t) (s .plain) (z .plain) (add-fits binary32 (a ⊘ t) (d ⊘ t));
-      to = le-through (third a d t) (p ⊕ q ⊕ o) two₃₂ (w .plain) (w .top) tt (w .to) l;
+      to = le-trans (third a d t) (p ⊕ q ⊕ o) two₃₂ (w .to) l;
     }
 
 -- a width w that is part of attack and decay together: with the held half it is at most the total
 beside : {a d r w : Float} → Total a d r → Width w → T (le w (a ⊕ d)) → T (le (w ⊕ half₃₂) (total a d r))
 unfolding ofBits add le lt eq
 beside {a} {d} {r} {w} t h l =
-    le-through (w ⊕ half₃₂) (held a d) (total a d r) (sum-under (width-under h) (width-under half-width) tt .plain) (t .held-plain) (t .is .plain)
+    le-trans (w ⊕ half₃₂) (held a d) (total a d r)
     (add-mono binary32 w half₃₂ (a ⊕ d) half₃₂ (h .plain) tt (t .both-plain) tt l (le-self half₃₂ tt)) (t .rest)
 
 twice-plain : {w : Float} → Width w → T (unsigned (w ⊕ w))
@@ -170,7 +171,7 @@ narrow : {a d r w : Float} → Total a d r → Width w → T (le w (a ⊕ d)) �
 unfolding ofBits add
 narrow {a} {d} {r} {w} t h l k =
     half-share h (twice-plain h) (t .is)
-    (le-through (w ⊕ w) (w ⊕ half₃₂) (total a d r) (twice-plain h) (sum-under (width-under h) (width-under half-width) tt .plain) (t .is .plain)
+    (le-trans (w ⊕ w) (w ⊕ half₃₂) (total a d r)
     (add-mono binary32 w w w half₃₂ (h .plain) (h .plain) (h .plain) tt (le-self w (h .plain)) k) (beside t h l))
 
 -- and the held half has half the total at most where it is at least 1/2
@@ -178,7 +179,7 @@ wide : {a d r w : Float} → Total a d r → Width w → T (le w (a ⊕ d)) → 
 unfolding ofBits add
 wide {a} {d} {r} {w} t h l k =
     half-share half-width tt (t .is)
-    (le-through (half₃₂ ⊕ half₃₂) (w ⊕ half₃₂) (total a d r) tt (sum-under (width-under h) (width-under half-width) tt .plain) (t .is .plain)
+    (le-trans (half₃₂ ⊕ half₃₂) (w ⊕ half₃₂) (total a d r)
     (add-mono binary32 half₃₂ half₃₂ w half₃₂ tt tt (h .plain) tt k (le-self half₃₂ tt)) (beside t h l))
 
 -- the smaller of attack and decay has half the total at most
@@ -190,13 +191,13 @@ wide-ends {a} {d} {r} t ha hd z = go (le-either a d (ha .plain) (hd .plain))
     s = total a d r
 
     x : Under (a ⊘ s) one₃₂
-    x = share ha (t .is) (le-through a (a ⊕ d) s (ha .plain) (t .both-plain) (t .is .plain) (t .attack) (t .both))
+    x = share ha (t .is) (le-trans a (a ⊕ d) s (t .attack) (t .both))
 
     y : Under (d ⊘ s) one₃₂
-    y = share hd (t .is) (le-through d (a ⊕ d) s (hd .plain) (t .both-plain) (t .is .plain) (t .decay) (t .both))
+    y = share hd (t .is) (le-trans d (a ⊕ d) s (t .decay) (t .both))
 
     smaller : {w : Float} → Width w → T (le (w ⊕ w) (a ⊕ d)) → Under (w ⊘ s) half₃₂
-    smaller {w} h k = half-share h (twice-plain h) (t .is) (le-through (w ⊕ w) (a ⊕ d) s (twice-plain h) (t .both-plain) (t .is .plain) k (t .both))
+    smaller {w} h k = half-share h (twice-plain h) (t .is) (le-trans (w ⊕ w) (a ⊕ d) s k (t .both))
 
     go : T (le a d) ⊎ T (le d a) → Ends a d s
     go (inl h) = ends-by (smaller ha (add-mono binary32 a a a d (ha .plain) (ha .plain) (ha .plain) (hd .plain) (le-self a (ha .plain)) h)) y z tt tt tt

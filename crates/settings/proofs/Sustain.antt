@@ -7,7 +7,8 @@ use lib.Dec.{T}
 use lib.Ieee.{Float, binary32, ofBits, ofInt, fits, lt, le, add, sub, mul, div, neg}
 use lib.Ieee.Fits.{and-l, and-r, add-fits, sub-fits, mul-fits}
 use Rattle.exact.specs.Binary32.{_⊕_, _⊖_, _⊗_, zero₃₂, one₃₂}
-use Rattle.exact.proofs.Monotone.{unsigned, unsigned-finite, le-self, le-through, add-mono, add-unsigned, mul-to-left, mul-unsigned}
+use Rattle.exact.proofs.Order.{le-trans}
+use Rattle.exact.proofs.Monotone.{unsigned, unsigned-finite, le-self, add-mono, add-unsigned, mul-to-left, mul-unsigned}
 use Rattle.math.proofs.Every.{every, each}
 use Rattle.curve.proofs.Positions.{Level}
 use Rattle.settings.specs.Settings.{byteOf, slopeOf, sloped, sustainEndOf}
@@ -42,7 +43,7 @@ part-unsigned x k u t h = mul-unsigned binary32 x k x u (unit-unsigned k h) (uns
 -- what is at most a float that is at most 1
 level-under : (x y : Float) → T (fits binary32 x) → T (unsigned x) → T (le x y) → T (unit y) → Level x
 unfolding ofBits
-level-under x y t u l h = record { holds = t; from = from-zero x u; to = le-through x y one₃₂ u (unit-unsigned y h) tt l (unit-to-one y h) }
+level-under x y t u l h = record { holds = t; from = from-zero x u; to = le-trans x y one₃₂ l (unit-to-one y h) }
 
 below : (s k : Float) → T (unit s) → T (fits binary32 s) → T (unit k) → Level (s ⊗ k)
 below s k v t h =

@@ -12,6 +12,7 @@ use Rattle.exact.proofs.Defined.{value-defined}
 use Rattle.exact.proofs.Order.{AtMost, equal-refl, equal-sym, equal-at-most, at-most-trans, eq-value, lt-at-most, nlt-at-most}
 use Rattle.exact.proofs.Lipschitz.{IsMax, downward, best-unique, max-is-max}
 use Rattle.math.specs.Formulas.{unsignedZero, maxOf}
+use Rattle.math.proofs.Nan.{not-nan, finite-number}
 
 -- a float of binary32 that is no NaN
 pub record Number (x : Float) : Type 0 where
@@ -21,12 +22,6 @@ pub record Number (x : Float) : Type 0 where
 zero-number : Number zero₃₂
 unfolding isNan fits ofBits
 zero-number = record { holds = tt; number = tt }
-
-pub finite-number : (x : Float) → T (finite x) → T (not (isNan x))
-unfolding isNan
-finite-number nan h = absurd h
-finite-number (inf s) h = absurd h
-finite-number (fin s m e) h = tt
 
 either : (b : Bool) {x y : Float} → Number x → Number y → Number (cond b x y)
 either true h k = h
@@ -60,7 +55,7 @@ unsigned-value x X = go (eq x zero₃₂) (eq-value x zero₃₂ X tt .0)
 pub max-is : (x y : Float) → T (finite x) → T (finite y) → Equal (value (maxOf x y)) (maxℚ (value x) (value y))
 unfolding maxOf
 max-is x y X Y =
-    go (isNan x) (isNan y) (lt y x) (lt x y) (finite-number x X) (finite-number y Y) (lt-at-most y x Y X) (nlt-at-most y x Y X) (lt-at-most x y X Y) (nlt-at-most x y X Y)
+    go (isNan x) (isNan y) (lt y x) (lt x y) (not-nan x (finite-number x X)) (not-nan y (finite-number y Y)) (lt-at-most y x Y X) (nlt-at-most y x Y X) (lt-at-most x y X Y) (nlt-at-most x y X Y)
   where
     own : Equal (value x) (value x)
     own = equal-refl (value-defined x .1 X)

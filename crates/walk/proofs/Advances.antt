@@ -1,5 +1,5 @@
 -- A STEP OF THE WALK goes from one position to the next, which lies above it by at most 1/85, or is cut at a phase between the two. One test of each count, computed. Assumes nothing.
-use mathlib.Core.Path.{_≡_, refl, subst}
+use mathlib.Core.Path.{subst}
 use mathlib.Core.Bool.{Bool, true, false, cond, _&&_}
 use Prim.Native.Nat.{ℕ, suc, _<_}
 use native.Mathlib.Nat.{mul-pos}
@@ -7,7 +7,7 @@ use native.Mathlib.Omega.{arith}
 use lib.IntN.{pos, _*ℤ_}
 use lib.Signed.{leZ, leZ-yes}
 use lib.Dec.{T, lit≤}
-use lib.Ieee.{Float, nan, inf, fin, binary32, ofBits, ofInt, neg, add, mul, div, isNan, fits, lt, le, eq}
+use lib.Ieee.{Float, binary32, ofBits, ofInt, neg, add, mul, div, fits, lt, le, eq}
 use lib.Ieee.Fits.{and-l, and-r}
 use lib.Ieee.Scale.{finite}
 use Rattle.exact.specs.Fraction.{Fraction, ratio, whole, _-ℚ_, _≤ℚ_}
@@ -17,6 +17,7 @@ use Rattle.exact.proofs.Order.{parts-≤ℚ, ≤ℚ-trans, equal-at-most, equal
 use Rattle.exact.proofs.Signs.{difference-monotone}
 use Rattle.exact.proofs.Defined.{value-defined}
 use Rattle.math.proofs.Every.{every, each}
+use Rattle.math.proofs.Nan.{finite-number}
 use Rattle.math.specs.Formulas.{minOf}
 use Rattle.math.proofs.Phase.{Phase, from-zero, phase-finite}
 use Rattle.lfo.proofs.DrawnPhase.{Spanned, spanned-phase}
@@ -99,12 +100,6 @@ zero-finite : T (finite zero₃₂)
 unfolding ofBits
 zero-finite = tt
 
-no-nan : (y : Float) → T (finite y) → isNan y ≡ false
-unfolding isNan
-no-nan nan t = absurd t
-no-nan (inf b) t = absurd t
-no-nan (fin b m e) t = refl
-
 at-zero : {p q : Float} → Stepped p q → Equal (value q) (value zero₃₂) → Stepped p zero₃₂
 unfolding ofBits value fits
 at-zero {p} {q} s e =
@@ -116,7 +111,7 @@ unfolding minOf
 cut {p} {q} x s h l =
     let Q = phase-finite q (s .phase) in
     let X = h .number in
-    rw (no-nan q Q, no-nan x X) (go (lt q x) (lt x q) (eq q zero₃₂) (λ t. lt-at-most x q X Q t .le) (λ t. eq-value q zero₃₂ Q zero-finite .0 t))
+    rw (finite-number q Q, finite-number x X) (go (lt q x) (lt x q) (eq q zero₃₂) (λ t. lt-at-most x q X Q t .le) (λ t. eq-value q zero₃₂ Q zero-finite .0 t))
   where
     go : (a b c : Bool) → (T b → value x ≤ℚ value q) → (T c → Equal (value q) (value zero₃₂)) → Stepped p (cond false x (cond false q (cond a q (cond b x (cond c zero₃₂ q)))))
     go true b c i j = s

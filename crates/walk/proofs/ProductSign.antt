@@ -14,6 +14,7 @@ use Rattle.exact.specs.Fraction.{Fraction, ratio, signed, _*ℚ_, _≤ℚ_}
 use Rattle.exact.specs.Value.{value}
 use Rattle.exact.proofs.Parts.{num⁺, num⁻, neg⁺, neg⁻, mul⁺, mul⁻}
 use Rattle.exact.proofs.Order.{≤ℚ-parts, parts-≤ℚ}
+use Rattle.exact.proofs.UnitRoundoff.{neither}
 use Rattle.exact.proofs.Quanta.{quanta-value}
 use Rattle.exact.proofs.Operations.{of-value}
 use Rattle.exact.proofs.Rounding.{round-value}
@@ -83,10 +84,6 @@ negative-zero a d h = none a d (subst₂ (λ (p q : ℕ). 0 * d + q * 1 ≤ p * 
   where
     none : (a d : ℕ) → 0 * d + a * 1 ≤ 0 * 1 + 0 * d → a ≡ 0
     none a d h = omega arith
-
-neither : (b s : Bool) → T (finite (cond b nan (inf s))) → ⊥
-neither true s t = t
-neither false s t = t
 
 pub mul-nonnegative : (f : Format) (x y : Float) → T (finite (mul f x y)) → ratio 0 1 ≤ℚ value x → ratio 0 1 ≤ℚ value y → ratio 0 1 ≤ℚ value (mul f x y)
 unfolding mul
