@@ -1,7 +1,9 @@
 // What every curve shares: where along it a position lies, and what its height comes to.
 ghost use mathlib.Core.Path.{_≡_};
+ghost use mathlib.Core.Bool.{cond};
+ghost use lib.Ieee.{lt};
+ghost use Rattle.exact.specs.Binary32.{zero₃₂, one₃₂};
 ghost use Rattle.curve.specs.Curve.{positionOf, unitOf, drawnOf};
-use math::clamp;
 
 // A height, and how many steps its walk took: none but for a slewed LFO.
 pub struct Height {
@@ -9,14 +11,44 @@ pub struct Height {
     pub steps: u32,
 }
 
+// The left edge of a curve.
+const LEFT: f32 = 0.0;
+
+// What lies below 0 is 0.
+fn raised(x: f32) -> f32
+    ensures { λ r. ⌜ r ≡ cond (lt x zero₃₂) zero₃₂ x ⌝ }
+{
+    if x < 0.0 {
+        return 0.0;
+    }
+    x
+}
+
+// What lies above 1 is 1.
+fn lowered(x: f32) -> f32
+    ensures { λ r. ⌜ r ≡ cond (lt one₃₂ x) one₃₂ x ⌝ }
+{
+    if 1.0 < x {
+        return 1.0;
+    }
+    x
+}
+
+// A clamp to 0..1. Raised first and then lowered, it is an instruction each, where math::clamp for any two ends is two branches.
+pub fn unit(x: f32) -> f32
+    ensures { λ r. ⌜ r ≡ unitOf x ⌝ }
+{
+    lowered(raised(x))
+}
+
 // A NaN is position 0; all else is clamped to 0..1.
 pub fn position(t: f32) -> f32
     ensures { λ r. ⌜ r ≡ positionOf t ⌝ }
 {
     if t != t {
-        return 0.0;
+        return LEFT;
     }
-    clamp(t, 0.0, 1.0)
+    unit(t)
 }
 
 // The level clamped to 0..1, as a height that took no steps.
@@ -24,7 +56,7 @@ pub fn drawn(level: f32) -> Height
     ensures { λ r. ⌜ r ≡ drawnOf level ⌝ }
 {
     Height {
-        height: clamp(level, 0.0, 1.0),
+        height: unit(level),
         steps: 0,
     }
 }

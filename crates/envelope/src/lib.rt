@@ -4,7 +4,7 @@ ghost use Rattle.envelope.specs.Formula.{divideOf, bentOf, attackOf, dec
 use curve::Height;
 use curve::drawn;
 use curve::position;
-use math::clamp;
+use curve::unit;
 use settings::Envelope;
 
 // Where t lies between two ends, from 0 to 1. In a stretch of no width it is 0.
@@ -15,14 +15,14 @@ fn divide(t: f32, from: f32, to: f32) -> f32
     if width <= 0.0 {
         return 0.0;
     }
-    clamp((t - from) / width, 0.0, 1.0)
+    unit((t - from) / width)
 }
 
 // A position along a stretch, bent by k: as it is where k is 1, and fixed at both ends.
 fn bent(u: f32, k: f32) -> f32
     ensures { λ r. ⌜ r ≡ bentOf u k ⌝ }
 {
-    let u = clamp(u, 0.0, 1.0);
+    let u = unit(u);
     let denominator = u + k * (1.0 - u);
     if denominator <= 0.0 {
         return u;

@@ -4,7 +4,7 @@ ghost use Rattle.filter.specs.Formula.{mirroredOf, octavesOf, squaredOf,
 use curve::Height;
 use curve::drawn;
 use curve::position;
-use math::clamp;
+use curve::unit;
 use math::exp2;
 use math::log2;
 use settings::Filter;
@@ -76,7 +76,7 @@ fn level(filter: Filter, t: f32) -> f32
     let octaves = octaves(filter, t);
     let magnitude = HALF_POWER * log(squared(filter, octaves));
     let decibels = magnitude + peak(filter, distance(filter, octaves));
-    clamp((decibels - FLOOR) / RANGE, 0.0, 1.0)
+    unit((decibels - FLOOR) / RANGE)
 }
 
 // The height of a filter's curve at position t.

@@ -19,12 +19,12 @@ distance-requires c κs = search needs
 peak-requires : tie.Need-peak-requires
 peak-requires c κs = search needs
 
-clamp-requires : tie.Need-clamp-requires
-clamp-requires c κs = search needs
+unit-requires : tie.Need-unit-requires
+unit-requires c κs = search needs
 
 returns : tie.Need-returns
 unfolding levelOf scaledOf
-returns c = simp (c .before .before .before .before .before .octaves .ensures, c .before .before .before .before .squared .ensures, c .before .before .before .log .ensures, c .before .before .distance .ensures, c .before .peak .ensures, c .clamp .ensures)
+returns c = simp (c .before .before .before .before .before .octaves .ensures, c .before .before .before .before .squared .ensures, c .before .before .before .log .ensures, c .before .before .distance .ensures, c .before .peak .ensures, c .unit .ensures)
 
 pub level-spec : {M : Type 1} → statement M
 level-spec =
@@ -35,5 +35,5 @@ level-spec =
     log-requires
     distance-requires
     peak-requires
-    clamp-requires
+    unit-requires
     returns)

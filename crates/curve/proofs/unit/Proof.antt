@@ -1,0 +1,30 @@
+-- `unit` is the clamp to 0..1: what was raised to 0 is not above 1. Assumes nothing.
+use mathlib.Core.Path.{_≡_, refl, _∙_}
+use mathlib.Core.Bool.{Bool, true, false, cond}
+use lib.Ieee.{Float, ofBits, lt}
+use Rattle.exact.specs.Binary32.{zero₃₂, one₃₂}
+use Rattle.math.specs.Formulas.{clampOf}
+use borrow.Author.Needs.{needs}
+use Rattle.curve.specs.Curve.{unitOf}
+use Rattle.curve.proofs.unit.Statement.{statement}
+use Rattle.curve.proofs.unit.Tie as tie
+
+raised-then-lowered : (x : Float) → cond (lt one₃₂ (cond (lt x zero₃₂) zero₃₂ x)) one₃₂ (cond (lt x zero₃₂) zero₃₂ x) ≡ unitOf x
+unfolding clampOf lt ofBits
+raised-then-lowered x = go (lt x zero₃₂)
+  where
+    go : (b : Bool) → cond (lt one₃₂ (cond b zero₃₂ x)) one₃₂ (cond b zero₃₂ x) ≡ cond b zero₃₂ (cond (lt one₃₂ x) one₃₂ x)
+    go true = refl
+    go false = refl
+
+raised-requires : tie.Need-raised-requires
+raised-requires c κs = search needs
+
+lowered-requires : tie.Need-lowered-requires
+lowered-requires c κs = search needs
+
+returns : tie.Need-returns
+returns c = simp (c .lowered .ensures, c .before .raised .ensures) (raised-then-lowered _)
+
+pub unit-spec : {M : Type 1} → statement M
+unit-spec = tie.close (tie.spec raised-requires lowered-requires returns)
