@@ -1,5 +1,6 @@
--- HEIGHTS THAT ARE KNOWN BEFOREHAND: docs/SPECIFICATION.md, "Examples". One table over the formulas: what a formula gives, and the bits that it must have. Assumes nothing.
-use mathlib.Core.Bool.{Bool}
+-- HEIGHTS AND STEPS THAT ARE KNOWN BEFOREHAND: docs/SPECIFICATION.md, "Examples". One table over the formulas: what a formula gives, and the bits that it must have; and one of steps. Assumes
+-- nothing.
+use mathlib.Core.Bool.{Bool, false}
 use mathlib.Core.List.{List, [], _∷_}
 use Prim.Native.Nat.{ℕ}
 use lib.Dec.{T, eqb}
@@ -12,10 +13,11 @@ use Rattle.math.proofs.Examples.{allPass}
 use Rattle.curve.specs.Curve.{positionOf, drawnOf}
 use Rattle.settings.specs.declared.LfoShape.{LfoShape}
 use Rattle.settings.specs.declared.LfoShape.the-variants.{Triangle, Square, RampUp, SampleAndHold, SampleAndGlide}
-use Rattle.settings.specs.Settings.{byteOf, totalOf, firstOf, secondOf, thirdOf, slopeOf, sloped, sustainEndOf, bendOf, envelopeOf, turnsOf, fadeOf, depthOf, widthOf, sweepOf, oscillatorOneOf, oscillatorTwoOf}
+use Rattle.settings.specs.Settings.{byteOf, totalOf, firstOf, secondOf, thirdOf, slopeOf, sloped, sustainEndOf, bendOf, envelopeOf, shapeOf, turnsOf, lfoOf, fadeOf, depthOf, widthOf, sweepOf, oscillatorOneOf, oscillatorTwoOf}
 use Rattle.envelope.specs.Formula.{divideOf, denominatorOf, bentUnit, bentOf, attackOf, decayOf, sustainOf, releaseOf, levelOf, heightOf}
 use Rattle.simple.specs.Formula.{fadeLevelOf, fadeHeightOf, sawOf, pulseOf, addedOf, sumOf, wavesOf, oscillatorLevelOf, oscillatorHeightOf}
 use Rattle.lfo.specs.Formula.{wrapOf, samples, sampleOf, indexOf, sampledOf, triangleOf, squareOf, rampUpOf, glideOf, shapeAtOf}
+use Rattle.walk.specs.Formula.{stepOf, placeOf, fullFrom, fullSteps, walkedOf, lfoHeightOf}
 
 -- the height of a shape at slew 0
 unslewed : LfoShape → Float → Float
@@ -54,3 +56,19 @@ known r = eqb (toBits binary32 (r .0)) (r .1)
 heights-known : T (allPass known rows)
 unfolding allPass known rows unslewed held silent toBits ofBits ofInt toUnsigned isNan lt le neg add sub mul div value horner clampOf floorOf fractOf scaleOf exp2Coefficients exp2Within exp2Of positionOf drawnOf byteOf totalOf firstOf secondOf thirdOf slopeOf sloped sustainEndOf bendOf envelopeOf turnsOf fadeOf depthOf widthOf sweepOf oscillatorOneOf oscillatorTwoOf divideOf denominatorOf bentUnit bentOf attackOf decayOf sustainOf releaseOf levelOf heightOf fadeLevelOf fadeHeightOf sawOf pulseOf addedOf sumOf wavesOf oscillatorLevelOf oscillatorHeightOf wrapOf samples sampleOf indexOf sampledOf triangleOf squareOf rampUpOf glideOf shapeAtOf
 heights-known = tt
+
+-- ---- steps, at slew byte 1: of the LFO of a shape's byte at a position
+stepsAt : ℕ → Float → ℕ
+stepsAt shape t = lfoHeightOf (lfoOf shape 1 0 false) t .steps
+
+stepRows : List (ℕ × ℕ)
+stepRows =
+    -- of Sine 96 and 192, of SampleAndHold 96 and 672
+    (stepsAt 0 zero₃₂, 96) ∷ (stepsAt 0 one₃₂, 192) ∷ (stepsAt 5 zero₃₂, 96) ∷ (stepsAt 5 one₃₂, 672) ∷ []
+
+counted : ℕ × ℕ → Bool
+counted r = eqb (r .0) (r .1)
+
+steps-known : T (allPass counted stepRows)
+unfolding allPass counted stepRows stepsAt lfoHeightOf walkedOf fullSteps fullFrom placeOf stepOf positionOf clampOf lfoOf shapeOf turnsOf byteOf ofBits ofInt isNan lt le neg add mul div
+steps-known = tt

@@ -1,10 +1,14 @@
-// A generator: the shape that a set of bytes makes and what its horizontal measures, with its marks, and the arpeggiator's gates.
+// A generator: the shape that a set of bytes makes and what its horizontal measures, with its height at every position, its marks, and the arpeggiator's gates.
 ghost use mathlib.Core.Path.{_≡_};
 ghost use mathlib.Core.Bool.{true, false};
 ghost use Rattle.settings.specs.Settings.{envelopeOf, lfoOf, fadeOf, lowPassOf, highPassOf, oscillatorOneOf, oscillatorTwoOf, noiseOf};
 ghost use Rattle.generator.specs.Generator.{generatorOf, restOf, anchoredOf};
+ghost use Rattle.generator.specs.Heights.{heightOf};
 ghost use Rattle.generator.specs.Marks.{noMarks, markOf, pushed, pushedAll, stored, cyclesOf, envelopeMarks, fadeMarks, pulseMarks, oscillatorMarks, marksOf};
 ghost use Rattle.generator.specs.Gates.{gateOf, gatesOf};
+use curve::Height;
+use envelope::envelope_height;
+use filter::filter_height;
 use settings::Envelope;
 use settings::Fade;
 use settings::Filter;
@@ -20,6 +24,10 @@ use settings::low_pass_from;
 use settings::noise_from;
 use settings::oscillator_one_from;
 use settings::oscillator_two_from;
+use simple::fade_height;
+use simple::noise_height;
+use simple::oscillator_height;
+use walk::lfo_height;
 
 // What a generator is a shape of.
 pub enum Shape {
@@ -209,6 +217,21 @@ pub fn noise(level: u8) -> Generator
 
 // ---- what a generator says of itself
 impl Generator {
+    // The height at a position, and the steps that a slewed LFO took to it.
+    pub fn at(self, t: f32) -> Height
+        ensures { λ r. ⌜ r ≡ heightOf (self .shape) t ⌝ }
+    {
+        let shape = self.shape;
+        match shape {
+            Shape::Envelope(e) => envelope_height(e, t),
+            Shape::Fade(f) => fade_height(f, t),
+            Shape::Lfo(l) => lfo_height(l, t),
+            Shape::Filter(f) => filter_height(f, t),
+            Shape::Oscillator(o) => oscillator_height(o, t),
+            Shape::Noise(n) => noise_height(n, t),
+        }
+    }
+
     // The height where the shape does nothing.
     pub fn rest(self) -> f32
         ensures { λ r. ⌜ r ≡ restOf (self .shape) ⌝ }

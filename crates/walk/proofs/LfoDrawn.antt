@@ -1,16 +1,16 @@
--- THE HEIGHT OF AN LFO, of any shape and any slew: at every position it is a number from 0 to 1, and lies within 1 / 4,096 of the exact height. Assumes nothing.
+-- THE HEIGHT OF AN LFO, of any shape and any slew: at every position it is a number from 0 to 1, and lies within 1 / 4,096 of the exact height; at slew 0
+-- within 1 / 262,144. Assumes nothing.
 use mathlib.Core.Path.{_≡_, sym, subst}
 use mathlib.Core.Logic.{_⊎_, inl, inr}
 use mathlib.Core.Bool.{Bool, true, false, not, cond, _||_}
 use Prim.Native.Nat.{ℕ, suc, _≤_, _<_}
 use native.Mathlib.Omega.{arith}
-use lib.Signed.{leZ-yes}
-use lib.Dec.{T, lit<}
+use lib.Dec.{T}
 use lib.Ieee.{Float, binary32, ofBits, ofInt, fits, le, div}
 use Rattle.exact.specs.Fraction.{ratio, unitℚ, _≤ℚ_}
 use Rattle.exact.specs.Value.{value}
 use Rattle.exact.specs.Binary32.{_⊗_, bits, zero₃₂}
-use Rattle.exact.proofs.Order.{within-loosen, or-cases, lt-at-most}
+use Rattle.exact.proofs.Order.{or-cases, lt-at-most}
 use Rattle.math.proofs.Every.{every, each}
 use Rattle.curve.specs.Curve.{positionOf, drawnOf, Drawn}
 use Rattle.curve.proofs.Clamped.{drawn-near}
@@ -26,9 +26,10 @@ use Rattle.lfo.proofs.ShapeError.{shape-drawn}
 use Rattle.lfo.proofs.DrawnPhase.{Spanned, position-spanned}
 use Rattle.walk.specs.Formula.{placeOf, limitOf, cutAfter, fullSteps, walkedOf, lfoHeightOf}
 use Rattle.walk.specs.Exact.{limitℚ, cutAfterℚ, lfoHeightℚ}
+use Rattle.walk.specs.Steps.{Steps}
 use Rattle.walk.proofs.MostError.{Slew}
 use Rattle.walk.proofs.Places.{place-finite}
-use Rattle.walk.proofs.Steps.{Steps, steps-at}
+use Rattle.walk.proofs.Steps.{steps-at}
 use Rattle.walk.proofs.WalkError.{cut-near, walk-near}
 
 -- ---- WHAT THE WALK USES OF AN LFO: a slew is 0, or from 1/255 to 1
@@ -60,11 +61,9 @@ walk-range shape slew sync unipolar h = record { range = lfo-range shape slew sy
 
 -- ---- AT SLEW 0, the shape's own level
 unslewed : (s : LfoShape) (t turns : Float) → T (fits binary32 t) → turns ≡ turnsOf s
-    → Drawn (drawnOf (shapeAtOf s (positionOf t ⊗ turns)) .height) (unitℚ (shapeℚ s (value (positionOf t ⊗ turns)))) (ratio 1 4096)
+    → Drawn (drawnOf (shapeAtOf s (positionOf t ⊗ turns)) .height) (unitℚ (shapeℚ s (value (positionOf t ⊗ turns)))) (ratio 1 262144)
 unslewed s t turns f e =
-    let d = shape-drawn s t f in
-    subst (λ (x : Float). Drawn (drawnOf (shapeAtOf s (positionOf t ⊗ x)) .height) (unitℚ (shapeℚ s (value (positionOf t ⊗ x)))) (ratio 1 4096)) (sym e)
-    (record { from = d .from; to = d .to; near = within-loosen (d .near) (lit< tt) (leZ-yes tt) })
+    subst (λ (x : Float). Drawn (drawnOf (shapeAtOf s (positionOf t ⊗ x)) .height) (unitℚ (shapeℚ s (value (positionOf t ⊗ x)))) (ratio 1 262144)) (sym e) (shape-drawn s t f)
 
 -- ---- AT A SLEW ABOVE 0, the walk's: its full steps end at or below the phase
 passed : (phase : Float) (n : ℕ) → Spanned phase → Steps phase (suc n) → value (placeOf n) ≤ℚ value phase
@@ -91,7 +90,7 @@ walked-drawn l phase h p =
     unfold drawnOf in drawn-near x X 1 4096 (cut-near (l .shape) (l .slew) phase n h p (k .most) u .holds) (walk-near (l .shape) (l .slew) phase n h p (k .most) u)
 
 -- THE HEIGHT
-pub lfo-drawn : (l : Lfo) (t : Float) → WalkRange l → T (fits binary32 t) → Drawn (lfoHeightOf l t .height) (lfoHeightℚ l t) (ratio 1 4096)
+pub lfo-drawn : (l : Lfo) (t : Float) → WalkRange l → T (fits binary32 t) → Drawn (lfoHeightOf l t .height) (lfoHeightℚ l t) (cond (le (l .slew) zero₃₂) (ratio 1 262144) (ratio 1 4096))
 unfolding lfoHeightOf lfoHeightℚ
 lfo-drawn l t r f = go (le (l .slew) zero₃₂) (r .slewed)
   where
@@ -103,6 +102,6 @@ lfo-drawn l t r f = go (le (l .slew) zero₃₂) (r .slewed)
 
     go : (b : Bool) → (T (not b) → Slew (l .slew))
         → Drawn ((cond b (drawnOf (shapeAtOf (l .shape) phase)) (walkedOf l phase)) .height)
-        (cond b (unitℚ (shapeℚ (l .shape) (value phase))) (unitℚ (cutAfterℚ (l .shape) (limitℚ (value (l .slew))) phase (fullSteps phase)))) (ratio 1 4096)
+        (cond b (unitℚ (shapeℚ (l .shape) (value phase))) (unitℚ (cutAfterℚ (l .shape) (limitℚ (value (l .slew))) phase (fullSteps phase)))) (cond b (ratio 1 262144) (ratio 1 4096))
     go true k = unslewed (l .shape) t (l .turns) f (r .range .turns)
     go false k = walked-drawn l phase (k tt) spanned

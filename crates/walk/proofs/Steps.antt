@@ -1,5 +1,5 @@
--- THE STEPS OF A SLEWED LFO are the first count from 1 up whose position is not below the phase, 96 to 672 of them: for all settings of a block whose slew byte is not 0, at every f32.
--- Assumes nothing.
+-- THE STEPS OF A SLEWED LFO are the first count from 1 up whose position is not below the phase, 96 to 672 of them: for all settings that bytes give, at every f32. A slew is above 0
+-- where its byte is. Assumes nothing.
 use mathlib.Core.Path.{_≡_, refl, sym, subst, _∙_}
 use mathlib.Core.Logic.{inl, inr}
 use mathlib.Core.Bool.{Bool, true, false, not, cond}
@@ -8,6 +8,7 @@ use native.Mathlib.Nat.{eq-or-lt-of-le, not-le-of-lt, le-of-suc-le-suc, not-suc-
 use native.Mathlib.Omega.{arith}
 use lib.Dec.{T, lit<, lit≤, leb, leb→le, nleb→lt}
 use lib.Ieee.{Float, binary32, ofBits, ofInt, div, lt, le, fits}
+use lib.Ieee.Bits.{is-true, is-false}
 use lib.Ieee.Scale.{finite}
 use Rattle.exact.specs.Fraction.{ratio, _≤ℚ_}
 use Rattle.exact.specs.Value.{value}
@@ -17,20 +18,12 @@ use Rattle.exact.proofs.Order.{cross, ≤ℚ-parts, ≤ℚ-trans, le-value, nlt
 use Rattle.math.proofs.Every.{every, each}
 use Rattle.curve.specs.Curve.{positionOf, drawnOf}
 use Rattle.settings.specs.declared.Lfo.{Lfo}
-use Rattle.settings.specs.Settings.{byteOf, lfoOf}
+use Rattle.settings.specs.Settings.{byteOf}
 use Rattle.settings.proofs.Ranges.{LfoRange}
-use Rattle.settings.proofs.Given.{lfo-range}
 use Rattle.lfo.proofs.DrawnPhase.{Spanned, position-spanned}
 use Rattle.walk.specs.Formula.{placeOf, fullFrom, fullSteps, walkedOf, lfoHeightOf}
+use Rattle.walk.specs.Steps.{Steps}
 use Rattle.walk.proofs.Places.{place-finite, place-end, place-below-zero}
-
--- k is the first count whose position is not below the phase.
-pub record Steps (phase : Float) (k : ℕ) : Type 0 where
-  pub some : 1 ≤ k
-  pub reached : T (not (lt (placeOf k) phase))
-  pub first : (j : ℕ) → 1 ≤ j → j < k → T (lt (placeOf j) phase)
-  pub least : 96 ≤ k
-  pub most : k ≤ 672
 
 -- ---- the search from count k + 1 on finds the first that reaches the phase, where some count m does
 record Found (phase : Float) (k m r : ℕ) : Type 0 where
@@ -100,7 +93,7 @@ end-reaches phase p = subst (λ (x : Float). T (le phase x)) (sym place-end) (le
 pub steps-at : (phase : Float) → Spanned phase → Steps phase (suc (fullSteps phase))
 unfolding fullSteps
 steps-at phase p =
-    let f = found phase 65534 0 672 (lit< tt) (lit≤ tt) (passes (le phase (placeOf 672)) (end-reaches phase p)) in
+    let f = found phase 65534 0 672 (lit< tt) (lit≤ tt) (is-true (le phase (placeOf 672)) (end-reaches phase p)) in
     let r = fullFrom phase 65534 0 in
     let reach : T (le phase (placeOf (suc r))) = subst T (sym (f .reaches)) tt in
     record {
@@ -111,10 +104,6 @@ steps-at phase p =
       most = f .before;
     }
   where
-    passes : (b : Bool) → T b → b ≡ true
-    passes true t = refl
-    passes false t = absurd t
-
     one : (r : ℕ) → 1 ≤ suc r
     one r = omega arith
 
@@ -122,37 +111,21 @@ steps-at phase p =
     inside j r a b = omega arith
 
 -- ---- THE STEPS OF AN LFO: a slewed one's are those of its phase, and one that is not slewed has none
-slewed : (l : Lfo) (t : Float) → le (l .slew) zero₃₂ ≡ false → lfoHeightOf l t .steps ≡ suc (fullSteps (positionOf t ⊗ l .turns))
+pub lfo-steps : (l : Lfo) (t : Float) → LfoRange l → T (not (le (l .slew) zero₃₂)) → T (fits binary32 t) → Steps (positionOf t ⊗ l .turns) (lfoHeightOf l t .steps)
 unfolding lfoHeightOf walkedOf
-slewed l t h = simp h
-
-pub lfo-steps : (l : Lfo) (t : Float) → LfoRange l → le (l .slew) zero₃₂ ≡ false → T (fits binary32 t) → Steps (positionOf t ⊗ l .turns) (lfoHeightOf l t .steps)
 lfo-steps l t r h f =
-    subst (λ (k : ℕ). Steps (positionOf t ⊗ l .turns) k) (sym (slewed l t h))
+    simp (is-false (le (l .slew) zero₃₂) h)
     (steps-at (positionOf t ⊗ l .turns) (subst (λ (n : Float). Spanned (positionOf t ⊗ n)) (sym (r .turns)) (position-spanned (l .shape) t f)))
 
-pub no-steps : (l : Lfo) (t : Float) → le (l .slew) zero₃₂ ≡ true → lfoHeightOf l t .steps ≡ 0
+pub no-steps : (l : Lfo) (t : Float) → T (le (l .slew) zero₃₂) → lfoHeightOf l t .steps ≡ 0
 unfolding lfoHeightOf drawnOf
-no-steps l t h = simp h
+no-steps l t h = simp (is-true (le (l .slew) zero₃₂) h)
 
--- ---- by the bytes: a slew is 0 just where its byte is
+-- ---- by the byte: a slew is above 0 where its byte is
 slew-test : ℕ → Bool
 slew-test b = not (le (byteOf (suc b)) zero₃₂)
 
-slew-above : (b : ℕ) → 0 < b → b < 256 → le (byteOf b) zero₃₂ ≡ false
+pub slew-above : (b : ℕ) → 0 < b → b < 256 → T (not (le (byteOf b) zero₃₂))
 unfolding every slew-test byteOf ofBits ofInt div le
 slew-above zero h l = absurd (not-suc-le-zero h)
-slew-above (suc b) h l = off (le (byteOf (suc b)) zero₃₂) (each slew-test 255 b tt (le-of-suc-le-suc l))
-  where
-    off : (b : Bool) → T (not b) → b ≡ false
-    off true t = absurd t
-    off false t = refl
-
-pub block-steps : (shape slew sync : ℕ) (unipolar : Bool) (t : Float) → 0 < slew → slew < 256 → T (fits binary32 t)
-    → Steps (positionOf t ⊗ lfoOf shape slew sync unipolar .turns) (lfoHeightOf (lfoOf shape slew sync unipolar) t .steps)
-unfolding lfoOf
-block-steps shape slew sync unipolar t h l f = lfo-steps (lfoOf shape slew sync unipolar) t (lfo-range shape slew sync unipolar l) (slew-above slew h l) f
-
-pub block-no-steps : (shape sync : ℕ) (unipolar : Bool) (t : Float) → lfoHeightOf (lfoOf shape 0 sync unipolar) t .steps ≡ 0
-unfolding lfoOf byteOf ofBits ofInt div le
-block-no-steps shape sync unipolar t = no-steps (lfoOf shape 0 sync unipolar) t refl
+slew-above (suc b) h l = each slew-test 255 b tt (le-of-suc-le-suc l)

@@ -4,6 +4,7 @@ ghost use Rattle.walk.specs.Formula.{placeOf, movedOf, walkedOf, lfoHeig
 use curve::Height;
 use curve::drawn;
 use curve::position;
+use curve::unit;
 use lfo::shape_at;
 use math::clamp;
 use math::min;
@@ -56,7 +57,7 @@ fn walked(lfo: Lfo, phase: f32) -> Height
     let end = moved(shape, limit, previous, at, level);
     let steps = count as u32;
     Height {
-        height: clamp(end, 0.0, 1.0),
+        height: unit(end),
         steps,
     }
 }

@@ -58,8 +58,8 @@ moved-requires-2 c κs = search needs
 cast-steps : tie.Need-cast-steps Inv-loop μ-loop
 cast-steps c = search needs
 
-clamp-requires : tie.Need-clamp-requires Inv-loop μ-loop
-clamp-requires c κs = search needs
+unit-requires : tie.Need-unit-requires Inv-loop μ-loop
+unit-requires c κs = search needs
 
 returns : tie.Need-returns Inv-loop μ-loop
 unfolding limitOf
@@ -73,7 +73,7 @@ returns c =
       | inr there ↦
           search-here _ 65535 _ (i .0) (ap (le _) (sym (there .1 .ensures)) ∙ there .2 .taken)
     ] in
-    finished _ _ _ _ _ _ _ _ _ (i .0) (i .2) (i .3) (sym (i .4) ∙ full) (c .before .before .before .place2 .ensures) (c .before .before .min .ensures) (c .before .moved2 .ensures) (c .clamp .ensures)
+    finished _ _ _ _ _ _ _ _ _ (i .0) (i .2) (i .3) (sym (i .4) ∙ full) (c .before .before .before .place2 .ensures) (c .before .before .min .ensures) (c .before .moved2 .ensures) (c .unit .ensures)
 
 pub walked-spec : {M : Type 1} → statement M
 walked-spec =
@@ -92,5 +92,5 @@ walked-spec =
     min-requires
     moved-requires-2
     cast-steps
-    clamp-requires
+    unit-requires
     returns)

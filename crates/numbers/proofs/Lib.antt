@@ -1,0 +1,2 @@
+-- Writing an array place by place.
+pub mod Laying

@@ -1,0 +1,62 @@
+-- `lay_gate_starts` writes the first places of its array and leaves the others. The loop's invariant: those before i are written. Assumes nothing.
+use mathlib.Core.Path.{_≡_, refl}
+use Prim.Native.Nat.{_≤_, _-_}
+use borrow.Author.Needs.{needs}
+use Rattle.numbers.specs.Arrays.{laid, gateStart, gatesUsed}
+use Rattle.numbers.proofs.Laying.{laid-next, laid-whole}
+use Rattle.numbers.proofs.lay_gate_starts.Statement.{statement}
+use Rattle.numbers.proofs.lay_gate_starts.Tie as tie
+
+abbrev Inv-loop : tie.InvT-loop
+Inv-loop out₀ gates count i₀ out i = (i ≤ count) × (count ≤ 4) × (count ≡ gatesUsed gates) × (out ≡ laid (gateStart gates) i out₀)
+
+abbrev μ-loop : tie.MeasureT-loop
+μ-loop out₀ gates count i₀ out i = count - i
+
+gates-used-requires : tie.Need-gates-used-requires Inv-loop μ-loop
+gates-used-requires c κs = search needs
+
+loop-holds : tie.Need-loop-holds Inv-loop μ-loop
+unfolding laid
+loop-holds c = (search needs, c .gates-used .ensures .1, c .gates-used .ensures .0, refl)
+
+mul-out : tie.Need-mul-out Inv-loop μ-loop
+mul-out c = search needs
+
+element-copy-out-out : tie.Need-element-copy-out-out Inv-loop μ-loop
+element-copy-out-out c = search needs
+
+mul-out-2 : tie.Need-mul-out-2 Inv-loop μ-loop
+mul-out-2 c = search needs
+
+element-write-out : tie.Need-element-write-out Inv-loop μ-loop
+element-write-out c = search needs
+
+add-i : tie.Need-add-i Inv-loop μ-loop
+add-i c = search needs
+
+loop-less : tie.Need-loop-less Inv-loop μ-loop
+loop-less c = search needs
+
+loop-again : tie.Need-loop-again Inv-loop μ-loop
+loop-again c = (search needs, c .before .loop .inv .1, c .before .loop .inv .2, laid-next _ _ _ (c .before .loop .inv .3) refl)
+
+returns : tie.Need-returns Inv-loop μ-loop
+returns c = laid-whole _ _ _ (c .before .loop .inv .3) (c .before .loop .inv .0) (c .loop-test .left) (c .before .loop .inv .2)
+
+pub lay-gate-starts-spec : {M : Type 1} → statement M
+lay-gate-starts-spec =
+    tie.close
+    (tie.spec
+    Inv-loop
+    μ-loop
+    gates-used-requires
+    loop-holds
+    mul-out
+    element-copy-out-out
+    mul-out-2
+    element-write-out
+    add-i
+    loop-less
+    loop-again
+    returns)

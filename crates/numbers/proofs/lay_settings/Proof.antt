@@ -1,0 +1,62 @@
+-- `lay_settings` writes the first places of its array and leaves the others. The loop's invariant: those before i are written. Assumes nothing.
+use mathlib.Core.Path.{_≡_, refl}
+use Prim.Native.Nat.{_≤_, _-_}
+use borrow.Author.Needs.{needs}
+use Rattle.numbers.specs.Arrays.{laid, settingAt, settingsUsed}
+use Rattle.numbers.proofs.Laying.{laid-next, laid-whole}
+use Rattle.numbers.proofs.lay_settings.Statement.{statement}
+use Rattle.numbers.proofs.lay_settings.Tie as tie
+
+abbrev Inv-loop : tie.InvT-loop
+Inv-loop out₀ numbers count i₀ out i = (i ≤ count) × (count ≤ 8) × (count ≡ settingsUsed numbers) × (out ≡ laid (settingAt numbers) i out₀)
+
+abbrev μ-loop : tie.MeasureT-loop
+μ-loop out₀ numbers count i₀ out i = count - i
+
+settings-used-requires : tie.Need-settings-used-requires Inv-loop μ-loop
+settings-used-requires c κs = search needs
+
+loop-holds : tie.Need-loop-holds Inv-loop μ-loop
+unfolding laid
+loop-holds c = (search needs, c .settings-used .ensures .1, c .settings-used .ensures .0, refl)
+
+mul-out : tie.Need-mul-out Inv-loop μ-loop
+mul-out c = search needs
+
+element-copy-out-out : tie.Need-element-copy-out-out Inv-loop μ-loop
+element-copy-out-out c = search needs
+
+mul-out-2 : tie.Need-mul-out-2 Inv-loop μ-loop
+mul-out-2 c = search needs
+
+element-write-out : tie.Need-element-write-out Inv-loop μ-loop
+element-write-out c = search needs
+
+add-i : tie.Need-add-i Inv-loop μ-loop
+add-i c = search needs
+
+loop-less : tie.Need-loop-less Inv-loop μ-loop
+loop-less c = search needs
+
+loop-again : tie.Need-loop-again Inv-loop μ-loop
+loop-again c = (search needs, c .before .before .loop .inv .1, c .before .before .loop .inv .2, laid-next _ _ _ (c .before .before .loop .inv .3) refl)
+
+returns : tie.Need-returns Inv-loop μ-loop
+returns c = laid-whole _ _ _ (c .before .loop .inv .3) (c .before .loop .inv .0) (c .loop-test .left) (c .before .loop .inv .2)
+
+pub lay-settings-spec : {M : Type 1} → statement M
+lay-settings-spec =
+    tie.close
+    (tie.spec
+    Inv-loop
+    μ-loop
+    settings-used-requires
+    loop-holds
+    mul-out
+    element-copy-out-out
+    mul-out-2
+    element-write-out
+    add-i
+    loop-less
+    loop-again
+    returns)

@@ -1,0 +1,30 @@
+-- `scale_number` meets its contract. Assumes nothing.
+use Rattle.generator.specs.Generator.{scaleNumber}
+use borrow.Author.Needs.{needs}
+use Rattle.numbers.proofs.scale_number.Statement.{statement}
+use Rattle.numbers.proofs.scale_number.Tie as tie
+
+enum-told : tie.Need-enum-told
+enum-told c = search needs
+
+enum-told-2 : tie.Need-enum-told-2
+enum-told-2 c = search needs
+
+enum-told-3 : tie.Need-enum-told-3
+enum-told-3 c = search needs
+
+returns : tie.Need-returns
+unfolding scaleNumber
+returns c = simp (c .enum-told .given .1)
+
+returns-2 : tie.Need-returns-2
+unfolding scaleNumber
+returns-2 c = simp (c .enum-told2 .given .1)
+
+returns-3 : tie.Need-returns-3
+unfolding scaleNumber
+returns-3 c = simp (c .enum-told3 .given .1)
+
+pub scale-number-spec : {M : Type 1} → statement M
+scale-number-spec =
+    tie.close (tie.spec enum-told enum-told-2 enum-told-3 returns returns-2 returns-3)
