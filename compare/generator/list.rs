@@ -1,9 +1,10 @@
 //! Prints the list of the reference's answers. A line is a letter, then hexadecimal numbers:
 //!
-//!     G CODE BYTES    the generator that the lines up to the next G speak of: its code, and the bytes it reads as one number, in the
+//!     G CODE BYTES    the generator that the lines up to the next G or T speak of: its code, and the bytes it reads as one number, in the
 //!                     order of `READ`; code a0 stands for the gates, with byte 160
+//!     T WORD .. USED  the taps that they speak of: four positions, four heights, and how many are used
 //!     S WORD ..       its settings
-//!     H T WORD        its height at position T
+//!     H T WORD STEPS  its height at position T, and the steps that the height took
 //!     N COUNT         how many marks it has, or gates
 //!     M WORD ..       where its marks lie, or where the gates start
 //!     K KIND ..       the kinds of its marks: 0 to 3 a segment, 4 corner, 5 cycle, 6 tap, 7 width, 8 sweep
@@ -15,162 +16,17 @@
 //! A WORD is an f32's bits, a NaN being 7fc00000, or a flag, 0 or 1, or an enum's number, by the order of its declaration. The bytes
 //! of the block that the code doesn't read are random.
 
-use crate::generator::{
-    EnvelopeId, Generator, LfoId, MarkKind, OscillatorId, Scale, Segment, arpeggiator_gates, envelope, filter_response,
-    high_pass_response, lfo, lfo_fade, lfo_unipolar, noise, oscillator,
+use crate::answers::{
+    POSITIONS, READ, Setting, Taps, block, build, joins, kind, neighbours, place, scale, settings, slewed, steps_of,
+    word,
 };
-use crate::stand_in::{BLOCK, Program};
-
-/// SplitMix64.
-struct Random(u64);
-
-impl Random {
-    fn next(&mut self) -> u64 {
-        self.0 = self.0.wrapping_add(0x9e37_79b9_7f4a_7c15);
-        let mut z = self.0;
-        z = (z ^ (z >> 30)).wrapping_mul(0xbf58_476d_1ce4_e5b9);
-        z = (z ^ (z >> 27)).wrapping_mul(0x94d0_49bb_1331_11eb);
-        z ^ (z >> 31)
-    }
-
-    fn byte(&mut self) -> u8 {
-        (self.next() >> 56) as u8
-    }
-
-    fn bytes(&mut self, n: usize) -> Vec<u8> {
-        (0..n).map(|_| self.byte()).collect()
-    }
-
-    /// A number from 0 to below 1.
-    fn unit(&mut self) -> f32 {
-        (self.next() >> 40) as f32 / 16_777_216.0
-    }
-
-    /// The numbers 0 to 255, shuffled.
-    fn values(&mut self) -> Vec<u8> {
-        let mut all: Vec<u8> = (0..=255).collect();
-        for i in (1..all.len()).rev() {
-            all.swap(i, (self.next() % (i as u64 + 1)) as usize);
-        }
-        all
-    }
-}
-
-/// The bytes that each code reads: of an envelope attack, decay, sustain, release and their four curves, of an LFO shape, sync and slew, of a
-/// filter resonance and pole, of oscillator 1 source, pulse, saw and depth.
-const READ: [&[usize]; 14] = [
-    &[53, 54, 55, 56, 58, 59, 60, 61],
-    &[62, 63, 64, 65, 67, 68, 69, 70],
-    &[71, 72, 73, 74, 76, 77, 78, 79],
-    &[2, 3, 6],
-    &[9, 10, 13],
-    &[2, 3, 6],
-    &[9, 10, 13],
-    &[1],
-    &[8],
-    &[41, 51],
-    &[],
-    &[16, 18, 19, 25],
-    &[26],
-    &[33],
-];
-
-/// A block that is random but for these bytes.
-fn block(random: &mut Random, read: &[usize], bytes: &[u8]) -> Program {
-    let mut program = Program([0; BLOCK]);
-    program.0.iter_mut().for_each(|b| *b = random.byte());
-    assert_eq!(read.len(), bytes.len());
-    read.iter().zip(bytes).for_each(|(&at, &b)| program.0[at] = b);
-    program
-}
-
-fn build(code: usize, program: &Program) -> Generator {
-    match code {
-        0 => envelope(program, EnvelopeId::Vca),
-        1 => envelope(program, EnvelopeId::Vcf),
-        2 => envelope(program, EnvelopeId::Mod),
-        3 => lfo(program, LfoId::One),
-        4 => lfo(program, LfoId::Two),
-        5 => lfo_unipolar(program, LfoId::One),
-        6 => lfo_unipolar(program, LfoId::Two),
-        7 => lfo_fade(program, LfoId::One),
-        8 => lfo_fade(program, LfoId::Two),
-        9 => filter_response(program),
-        10 => high_pass_response(program),
-        11 => oscillator(program, OscillatorId::One),
-        12 => oscillator(program, OscillatorId::Two),
-        _ => noise(program),
-    }
-}
-
-fn word(x: f32) -> u32 {
-    if x.is_nan() { 0x7fc0_0000 } else { x.to_bits() }
-}
-
-/// What stands after `name: ` in the generator's debug text, up to the end of the field.
-fn field<'a>(text: &'a str, name: &str) -> &'a str {
-    let at = text.find(&format!("{name}: ")).expect(name) + name.len() + 2;
-    let rest = &text[at..];
-    let end = if rest.starts_with('[') {
-        rest.find(']')
-    } else {
-        rest.find([',', ' '])
-    };
-    rest[..end.expect(name)].trim_start_matches('[')
-}
-
-fn number(text: &str) -> u32 {
-    match text {
-        "true" => 1,
-        "false" => 0,
-        // The shapes and the passes, in the order of their declarations.
-        "Sine" | "Low" => 0,
-        "Triangle" | "High" => 1,
-        "Square" => 2,
-        "RampUp" => 3,
-        "RampDown" => 4,
-        "SampleAndHold" => 5,
-        "SampleAndGlide" => 6,
-        _ => word(text.parse().expect("an f32's text")),
-    }
-}
-
-/// The settings. They are private, and an f32's debug text reads back as the same f32.
-fn settings(code: usize, generator: &Generator) -> Vec<u32> {
-    let text = format!("{generator:?}");
-    let all = |names: &[&str]| names.iter().map(|name| number(field(&text, name))).collect();
-    match code {
-        0..=2 => {
-            let many = |name| -> Vec<u32> { field(&text, name).split(", ").map(number).collect() };
-            let (ends, bends) = (many("ends"), many("bends"));
-            let [sustain, end] = [number(field(&text, "sustain")), number(field(&text, "sustain_end"))];
-            vec![ends[0], ends[1], ends[2], sustain, end, bends[0], bends[1], bends[3]]
-        }
-        3..=6 => {
-            // The first "shape: " of the text is the generator's own.
-            let inner = &text[text.find("Lfo { ").expect("an LFO")..];
-            ["shape", "turns", "slew", "unipolar", "synced"]
-                .iter()
-                .map(|name| number(field(inner, name)))
-                .collect()
-        }
-        7 | 8 => all(&["end"]),
-        9 | 10 => all(&["slope", "resonance", "span", "pass"]),
-        11 | 12 => all(&["saw", "pulse", "width", "sweep", "level"]),
-        _ => all(&["level"]),
-    }
-}
+use crate::generator::{Generator, arpeggiator_gates};
+use crate::random::Random;
 
 /// The line that names a generator.
 fn select(code: usize, bytes: &[u8]) {
     let number = bytes.iter().fold(0u64, |n, &b| n << 8 | u64::from(b));
     println!("G {code:x} {number:x}");
-}
-
-fn chosen(random: &mut Random, code: usize, bytes: &[u8]) -> Generator {
-    select(code, bytes);
-    let program = block(random, READ[code], bytes);
-    build(code, &program)
 }
 
 /// A line.
@@ -179,98 +35,65 @@ fn print(letter: char, numbers: impl IntoIterator<Item = u32>) {
     println!("{letter}{text}");
 }
 
-fn kind(kind: MarkKind) -> u32 {
-    match kind {
-        MarkKind::Segment(Segment::Attack) => 0,
-        MarkKind::Segment(Segment::Decay) => 1,
-        MarkKind::Segment(Segment::Sustain) => 2,
-        MarkKind::Segment(Segment::Release) => 3,
-        MarkKind::Corner => 4,
-        MarkKind::Cycle => 5,
-        MarkKind::Tap => 6,
-        MarkKind::Width => 7,
-        MarkKind::Sweep => 8,
-    }
+fn print_settings(code: usize, generator: &Generator) {
+    let number = |setting| match setting {
+        Setting::Float(x) => word(x),
+        Setting::Number(n) => u32::from(n),
+    };
+    print('S', settings(code, generator).into_iter().map(number));
 }
 
 /// Marks, rest, scale and whether it is anchored.
 fn print_about(generator: &Generator) {
     print('N', [generator.marks().count() as u32]);
     print('M', generator.marks().map(|mark| word(mark.at())));
-    print('K', generator.marks().map(|mark| kind(mark.kind())));
+    print('K', generator.marks().map(|mark| u32::from(kind(mark.kind()))));
     print('R', [word(generator.rest())]);
-    print(
-        'C',
-        match generator.scale() {
-            Scale::Normalised => [0, 0],
-            Scale::Turns(turns) => [1, word(turns)],
-            Scale::Octaves(octaves) => [2, word(octaves)],
-        },
-    );
+    let (kind, number) = scale(generator.scale());
+    print('C', [kind, word(number)]);
     print('A', [u32::from(generator.anchored())]);
 }
 
-/// Positions of every kind, and a few at random.
-const POSITIONS: [u32; 31] = [
-    0x7fc0_0000, // NaN, of either sign, and one that signals
-    0xffc0_0000,
-    0x7f80_0001,
-    0x7f80_0000, // +inf
-    0xff80_0000, // -inf
-    0x0000_0000, // +0
-    0x8000_0000, // -0
-    0x0000_0001, // the smallest subnormal
-    0x8000_0001,
-    0x007f_ffff, // the largest subnormal
-    0x807f_ffff,
-    0x0080_0000, // the smallest normal number
-    0x3380_0000, // 2^-24
-    0xb380_0000,
-    0x7f7f_ffff, // the largest finite number
-    0xff7f_ffff,
-    0x3e7f_ffff, // 0.25 and neighbours
-    0x3e80_0000,
-    0x3e80_0001,
-    0x3eff_ffff, // 0.5 and neighbours
-    0x3f00_0000,
-    0x3f00_0001,
-    0x3f40_0000, // 0.75
-    0x3e2a_aaab, // 1/6
-    0x3eaa_aaab, // 1/3
-    0x3f2a_aaab, // 2/3
-    0x3f7f_ffff, // 1 and neighbours
-    0x3f80_0000,
-    0x3f80_0001,
-    0xbf80_0000, // -1
-    0x4000_0000, // 2
-];
-
-/// Where the curve is joined, as its marks say, with both neighbours.
-fn joins(generator: &Generator) -> Vec<u32> {
-    let inside = generator
-        .marks()
-        .map(|mark| mark.at().to_bits())
-        .filter(|&b| 0 < b && b < 0x3f80_0000);
-    let mut all: Vec<u32> = inside
-        .flat_map(|b| [b - 1, b, b + 1])
-        .filter(|b| !POSITIONS.contains(b))
-        .collect();
-    all.dedup();
-    all
+/// A few positions at random, two of any bits at all.
+fn random_positions(random: &mut Random, drawn: usize) -> Vec<u32> {
+    let mut positions: Vec<u32> = (0..drawn).map(|_| random.unit().to_bits()).collect();
+    positions.extend((0..2).map(|_| random.next() as u32));
+    positions
 }
 
-fn print_heights(random: &mut Random, generator: &Generator, drawn: usize) {
-    let mut positions = POSITIONS.to_vec();
-    positions.extend(joins(generator));
-    positions.extend((0..drawn).map(|_| random.unit().to_bits()));
-    // Any bits at all.
-    positions.extend((0..2).map(|_| random.next() as u32));
-    for b in positions {
-        print('H', [b, word(generator.at(f32::from_bits(b)))]);
+fn print_heights(generator: &Generator, positions: &[u32], steps: impl Fn(f32) -> u32) {
+    for &b in positions {
+        let t = f32::from_bits(b);
+        print('H', [b, word(generator.at(t)), steps(t)]);
     }
 }
 
-/// The generators whose heights are listed: at the ends of their bytes and in between. LFOs have slew 0.
+/// Where a slewed LFO takes a step more, for some of its counts, with both neighbours.
+fn step_positions(random: &mut Random, turns: f32) -> Vec<u32> {
+    (0..4)
+        .flat_map(|_| {
+            let count = 96 + random.below(96 * turns as usize) as u16;
+            neighbours(place(count) / turns)
+        })
+        .collect()
+}
+
+fn print_generator(random: &mut Random, code: usize, bytes: &[u8]) {
+    select(code, bytes);
+    let program = block(random, READ[code], bytes);
+    let generator = build(code, &program);
+    print_settings(code, &generator);
+    print_about(&generator);
+    let mut positions = POSITIONS.to_vec();
+    positions.extend(joins(&generator));
+    if slewed(code, &program) {
+        positions.extend(step_positions(random, scale(generator.scale()).1));
+    }
+    positions.extend(random_positions(random, 8));
+    print_heights(&generator, &positions, |t| steps_of(code, &program, &generator, t));
+}
+
+/// The generators whose heights are listed: at the ends of their bytes and in between.
 fn drawn(random: &mut Random) -> Vec<(usize, Vec<u8>)> {
     let mut all: Vec<(usize, Vec<u8>)> = Vec::new();
     for code in 0..3 {
@@ -294,8 +117,17 @@ fn drawn(random: &mut Random) -> Vec<(usize, Vec<u8>)> {
             all.push((code, vec![shape, random.byte() & 1, 0]));
         }
     }
-    all.push((3, vec![7, 0, 0]));
-    all.push((3, vec![255, 255, 0]));
+    for shape in 0..7 {
+        for (i, slew) in [1, 2, 128, 255, random.byte(), random.byte()].into_iter().enumerate() {
+            // Each of the four codes in turn.
+            let code = 3 + (usize::from(shape) + i) % 4;
+            all.push((code, vec![shape, random.byte() & 1, slew]));
+        }
+    }
+    for slew in [0, 200] {
+        all.push((3, vec![7, 0, slew]));
+        all.push((3, vec![255, 255, slew]));
+    }
     for code in [7, 8, 12, 13] {
         for b in [0, 1, 128, 255] {
             all.push((code, vec![b]));
@@ -327,6 +159,21 @@ fn print_gates(random: &mut Random, open: u8) {
     print('E', arpeggiator_gates(&program).map(|gate| word(gate.end())));
 }
 
+fn print_taps(random: &mut Random, used: u32) {
+    let taps = Taps {
+        used,
+        ..Taps::drawn(random)
+    };
+    let generator = taps.generator();
+    let words = taps.at.iter().chain(&taps.tall).map(|&x| word(x));
+    print('T', words.chain([taps.used]));
+    print_about(&generator);
+    let mut positions = POSITIONS.to_vec();
+    positions.extend(taps.positions());
+    positions.extend(random_positions(random, 4));
+    print_heights(&generator, &positions, |_| 0);
+}
+
 pub fn run() {
     // Another list is made with another seed, the program's argument.
     let seed = std::env::args()
@@ -341,17 +188,19 @@ pub fn run() {
         let columns: Vec<Vec<u8>> = read.iter().map(|_| random.values()).collect();
         for row in 0..if read.is_empty() { 1 } else { 256 } {
             let bytes: Vec<u8> = columns.iter().map(|column| column[row]).collect();
-            let generator = chosen(random, code, &bytes);
-            print('S', settings(code, &generator));
+            select(code, &bytes);
+            print_settings(code, &build(code, &block(random, READ[code], &bytes)));
         }
     }
-    println!("# Settings, marks, rest, scale, anchored and heights.");
+    println!("# Settings, marks, rest, scale, anchored, and heights with their steps.");
     for (code, bytes) in drawn(random) {
-        let generator = chosen(random, code, &bytes);
-        print('S', settings(code, &generator));
-        print_about(&generator);
-        let some = if (3..7).contains(&code) { 12 } else { 8 };
-        print_heights(random, &generator, some);
+        print_generator(random, code, &bytes);
+    }
+    println!("# Taps: marks, rest, scale, anchored and heights.");
+    for used in [0, 1, 2, 3, 4, 5, u32::MAX] {
+        for _ in 0..3 {
+            print_taps(random, used);
+        }
     }
     println!("# Gates.");
     for open in 0..=255 {

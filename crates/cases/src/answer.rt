@@ -1,6 +1,5 @@
 // What the crates answer, as words.
-use curve::drawn;
-use curve::position;
+use curve::Height;
 use generator::Gates;
 use generator::Generator;
 use generator::MarkKind;
@@ -23,11 +22,11 @@ pub enum Answer {
     Nothing,
 }
 
-fn of_float(x: f32) -> Answer {
+pub fn of_float(x: f32) -> Answer {
     Answer::Word(word_of(x))
 }
 
-fn of_flag(b: bool) -> Answer {
+pub fn of_flag(b: bool) -> Answer {
     Answer::Word(flag(b))
 }
 
@@ -120,24 +119,12 @@ pub fn setting(g: Generator, i: u32) -> Answer {
 }
 
 // ---- heights
-// A slewed LFO's is not answered.
-fn lfo_height(l: Lfo, t: f32) -> Answer {
-    if l.slew > 0.0 {
-        return Answer::Nothing;
-    }
-    let shape = l.shape;
-    of_float(drawn(lfo::shape_at(shape, position(t) * l.turns)).height)
-}
-
-pub fn height(g: Generator, t: f32) -> Answer {
-    let shape = g.shape;
-    match shape {
-        Shape::Envelope(e) => of_float(envelope::envelope_height(e, t).height),
-        Shape::Fade(f) => of_float(simple::fade_height(f, t).height),
-        Shape::Lfo(l) => lfo_height(l, t),
-        Shape::Filter(f) => of_float(filter::filter_height(f, t).height),
-        Shape::Oscillator(o) => of_float(simple::oscillator_height(o, t).height),
-        Shape::Noise(n) => of_float(simple::noise_height(n, t).height),
+// The height itself, then its steps: on a line of the list, the position stands before them.
+pub fn height(h: Height, i: u32) -> Answer {
+    match i {
+        1 => of_float(h.height),
+        2 => Answer::Word(h.steps),
+        _ => Answer::Nothing,
     }
 }
 
@@ -162,12 +149,11 @@ fn kind_number(kind: MarkKind) -> u32 {
     }
 }
 
-pub fn mark_count(g: Generator) -> Answer {
-    Answer::Word((g.marks().count % 256) as u32)
+pub fn mark_count(marks: Marks) -> Answer {
+    Answer::Word((marks.count % 256) as u32)
 }
 
-pub fn mark_at(g: Generator, i: u32) -> Answer {
-    let marks = g.marks();
+pub fn mark_at(marks: Marks, i: u32) -> Answer {
     let n = i as usize;
     if n < marks.count && n < generator::MAX_MARKS {
         return of_float(marks.places[n].at);
@@ -175,8 +161,7 @@ pub fn mark_at(g: Generator, i: u32) -> Answer {
     Answer::Nothing
 }
 
-pub fn mark_kind(g: Generator, i: u32) -> Answer {
-    let marks = g.marks();
+pub fn mark_kind(marks: Marks, i: u32) -> Answer {
     let n = i as usize;
     if n < marks.count && n < generator::MAX_MARKS {
         let mark = marks.places[n];
@@ -186,11 +171,7 @@ pub fn mark_kind(g: Generator, i: u32) -> Answer {
     Answer::Nothing
 }
 
-// ---- rest, scale, anchored
-pub fn rest(g: Generator) -> Answer {
-    of_float(g.rest())
-}
-
+// ---- scale
 fn scale_word(i: u32, kind: u32, number: f32) -> Answer {
     match i {
         0 => Answer::Word(kind),
@@ -199,17 +180,12 @@ fn scale_word(i: u32, kind: u32, number: f32) -> Answer {
     }
 }
 
-pub fn scale(g: Generator, i: u32) -> Answer {
-    let scale = g.scale();
+pub fn scale(scale: Scale, i: u32) -> Answer {
     match scale {
         Scale::Normalised => scale_word(i, 0, 0.0),
         Scale::Turns(turns) => scale_word(i, 1, turns),
         Scale::Octaves(octaves) => scale_word(i, 2, octaves),
     }
-}
-
-pub fn anchored(g: Generator) -> Answer {
-    of_flag(g.anchored())
 }
 
 // ---- gates

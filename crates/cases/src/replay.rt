@@ -3,6 +3,8 @@ use crate::answer;
 use crate::answer::Answer;
 use crate::build::built;
 use crate::report;
+use taps::MAX_TAPS;
+use taps::Taps;
 use words::agreeing;
 use words::float_of;
 use words::low_byte;
@@ -12,18 +14,21 @@ use words::low_word;
 pub struct Tally {
     pub settings: u32,
     pub heights: u32,
+    pub steps: u32,
     pub marks: u32,
     pub others: u32,
     pub gates: u32,
+    pub taps: u32,
     pub different: u32,
     pub unanswered: u32,
 }
 
 // What a number of the list is about.
 pub struct Place {
-    // The generator's code and bytes.
+    // The generator's code and bytes, or the taps.
     pub code: u64,
     pub bytes: u64,
+    pub taps: Taps,
     // The line's letter, and how many of the line's numbers stand before this one.
     pub letter: u8,
     pub index: u32,
@@ -42,6 +47,9 @@ pub struct Reading {
 
 // The code that stands for the gates.
 const GATES: u64 = 0xa0;
+
+// The code of what a line T begins.
+const TAPS: u64 = 0xb0;
 
 // The value of a hexadecimal digit in lower case, and 16 for any other byte.
 fn digit(b: u8) -> u64 {
@@ -68,22 +76,43 @@ fn gate_answer(place: Place) -> Answer {
     }
 }
 
+fn tap_answer(place: Place) -> Answer {
+    let taps = place.taps;
+    let letter = place.letter;
+    match letter {
+        b'H' => answer::height(
+            taps::taps_height(taps, float_of(low_word(place.position))),
+            place.index,
+        ),
+        b'N' => answer::mark_count(taps::taps_marks(taps)),
+        b'M' => answer::mark_at(taps::taps_marks(taps), place.index),
+        b'K' => answer::mark_kind(taps::taps_marks(taps), place.index),
+        b'R' => answer::of_float(taps::taps_rest()),
+        b'C' => answer::scale(taps::taps_scale(), place.index),
+        b'A' => answer::of_flag(taps::taps_anchored()),
+        _ => Answer::Nothing,
+    }
+}
+
 // What the crates answer there.
 fn answered(place: Place) -> Answer {
     if place.code == GATES {
         return gate_answer(place);
     }
+    if place.code == TAPS {
+        return tap_answer(place);
+    }
     let g = built(low_byte(place.code), place.bytes);
     let letter = place.letter;
     match letter {
         b'S' => answer::setting(g, place.index),
-        b'H' => answer::height(g, float_of(low_word(place.position))),
-        b'N' => answer::mark_count(g),
-        b'M' => answer::mark_at(g, place.index),
-        b'K' => answer::mark_kind(g, place.index),
-        b'R' => answer::rest(g),
-        b'C' => answer::scale(g, place.index),
-        b'A' => answer::anchored(g),
+        b'H' => answer::height(g.at(float_of(low_word(place.position))), place.index),
+        b'N' => answer::mark_count(g.marks()),
+        b'M' => answer::mark_at(g.marks(), place.index),
+        b'K' => answer::mark_kind(g.marks(), place.index),
+        b'R' => answer::of_float(g.rest()),
+        b'C' => answer::scale(g.scale(), place.index),
+        b'A' => answer::of_flag(g.anchored()),
         _ => Answer::Nothing,
     }
 }
@@ -92,6 +121,14 @@ fn counted(tally: Tally, place: Place) -> Tally {
     let mut next = tally;
     if place.code == GATES {
         next.gates = more(next.gates);
+        return next;
+    }
+    if place.code == TAPS {
+        next.taps = more(next.taps);
+        return next;
+    }
+    if place.letter == b'H' && place.index == 2 {
+        next.steps = more(next.steps);
         return next;
     }
     let letter = place.letter;
@@ -120,11 +157,33 @@ fn compared(tally: Tally, place: Place, expected: u32) -> Tally {
     next
 }
 
+// The taps after a number of their line: four positions, four heights, and how many are used.
+fn tapped(taps: Taps, index: u32, value: u64) -> Taps {
+    let mut next = taps;
+    let n = index as usize;
+    if n < MAX_TAPS {
+        next.at[n] = float_of(low_word(value));
+        return next;
+    }
+    if n < 2 * MAX_TAPS {
+        next.tall[n - MAX_TAPS] = float_of(low_word(value));
+        return next;
+    }
+    next.used = value as usize;
+    next
+}
+
 impl Reading {
     fn start() -> Reading {
+        let taps = Taps {
+            at: [0.0; MAX_TAPS],
+            tall: [0.0; MAX_TAPS],
+            used: 0,
+        };
         let place = Place {
             code: 0,
             bytes: 0,
+            taps,
             letter: 0,
             index: 0,
             position: 0,
@@ -132,9 +191,11 @@ impl Reading {
         let tally = Tally {
             settings: 0,
             heights: 0,
+            steps: 0,
             marks: 0,
             others: 0,
             gates: 0,
+            taps: 0,
             different: 0,
             unanswered: 0,
         };
@@ -147,7 +208,7 @@ impl Reading {
         }
     }
 
-    // After a whole number. The numbers of G, and the first of H, say what the others are about.
+    // After a whole number. The numbers of G and T, and the first of H, say what the others are about.
     fn number(self) -> Reading {
         let mut next = self;
         let mut place = self.place;
@@ -158,6 +219,10 @@ impl Reading {
         } else if place.letter == b'G' {
             report::print_number(value);
             place.bytes = value;
+        } else if place.letter == b'T' {
+            report::print_number(value);
+            place.code = TAPS;
+            place.taps = tapped(place.taps, place.index, value);
         } else if place.letter == b'H' && place.index == 0 {
             report::print_number(value);
             place.position = value;

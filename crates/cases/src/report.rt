@@ -31,9 +31,11 @@ fn print_count(label: &[u8], n: u32) {
 pub fn print_tally(tally: Tally) {
     print_count(b"settings ", tally.settings);
     print_count(b"heights ", tally.heights);
+    print_count(b"steps ", tally.steps);
     print_count(b"marks ", tally.marks);
     print_count(b"rest, scale, anchored ", tally.others);
     print_count(b"gates ", tally.gates);
+    print_count(b"taps ", tally.taps);
     print_count(b"unanswered ", tally.unanswered);
     print_count(b"different ", tally.different);
 }

@@ -1,0 +1,75 @@
+//! The declarations of juvrada.h for Rust; what each function does is said there.
+#![allow(dead_code)]
+
+pub const BLOCK: usize = 242;
+pub const MIN_STRIP: usize = 2;
+pub const MAX_STRIP: usize = 4096;
+pub const MAX_MARKS: usize = 6;
+pub const MAX_SETTINGS: usize = 8;
+pub const GATES: usize = 4;
+pub const TAPS: usize = 4;
+
+#[repr(C)]
+#[derive(Clone, Copy, Debug)]
+pub struct HeightResult {
+    pub refusal: u32,
+    pub steps: u32,
+    pub height: f32,
+}
+
+#[repr(C)]
+#[derive(Clone, Copy, Debug, PartialEq, Eq)]
+pub struct StripResult {
+    pub refusal: u32,
+    pub steps: u32,
+}
+
+#[repr(C)]
+#[derive(Clone, Copy, Debug, PartialEq, Eq)]
+pub struct CountResult {
+    pub refusal: u32,
+    pub count: u32,
+}
+
+#[repr(C)]
+#[derive(Clone, Copy, Debug)]
+pub struct RestResult {
+    pub refusal: u32,
+    pub level: f32,
+}
+
+#[repr(C)]
+#[derive(Clone, Copy, Debug)]
+pub struct ScaleResult {
+    pub refusal: u32,
+    pub kind: u32,
+    pub number: f32,
+}
+
+#[repr(C)]
+#[derive(Clone, Copy, Debug, PartialEq, Eq)]
+pub struct AnchoredResult {
+    pub refusal: u32,
+    pub anchored: u32,
+}
+
+unsafe extern "C" {
+    pub fn juvrada_height(block: *const u8, block_len: usize, code: u8, t: f32) -> HeightResult;
+    pub fn juvrada_strip(block: *const u8, block_len: usize, code: u8, out: *mut f32, out_len: usize) -> StripResult;
+    pub fn juvrada_marks(block: *const u8, block_len: usize, code: u8, at: *mut f32, kind: *mut u8) -> CountResult;
+    pub fn juvrada_rest(block: *const u8, block_len: usize, code: u8) -> RestResult;
+    pub fn juvrada_scale(block: *const u8, block_len: usize, code: u8) -> ScaleResult;
+    pub fn juvrada_anchored(block: *const u8, block_len: usize, code: u8) -> AnchoredResult;
+    pub fn juvrada_settings(block: *const u8, block_len: usize, code: u8, out: *mut f32) -> CountResult;
+    pub fn juvrada_captions(block: *const u8, block_len: usize, code: u8, out: *mut u8, out_len: usize) -> u32;
+    pub fn juvrada_gates(block: *const u8, block_len: usize, start: *mut f32, end: *mut f32) -> CountResult;
+    pub fn juvrada_bars(block: *const u8, block_len: usize, start: *mut f32, end: *mut f32) -> CountResult;
+    pub fn juvrada_taps_height(at: *const f32, tall: *const f32, used: u32, t: f32) -> HeightResult;
+    pub fn juvrada_taps_marks(
+        at: *const f32,
+        tall: *const f32,
+        used: u32,
+        mark_at: *mut f32,
+        kind: *mut u8,
+    ) -> CountResult;
+}

@@ -1,0 +1,133 @@
+/* Calls every function of the static library from C. Prints each expectation that fails; status 0 where none does. */
+#include "juvrada.h"
+#include <stdio.h>
+#include <string.h>
+
+static int failures = 0;
+
+#define EXPECT(condition)                                                \
+    do {                                                                 \
+        if (!(condition)) {                                              \
+            printf("link.c, line %d: not so: %s\n", __LINE__, #condition); \
+            failures += 1;                                               \
+        }                                                                \
+    } while (0)
+
+/* The empty program. */
+static uint8_t block[JUVRADA_BLOCK];
+
+static void heights(void) {
+    /* The fade of 0 is over at once. */
+    juvrada_height_result r = juvrada_height(block, sizeof block, 7, 0.0f);
+    EXPECT(r.refusal == JUVRADA_ACCEPTED && r.steps == 0 && r.height == 1.0f);
+    /* A slewed sine. */
+    block[6] = 1;
+    r = juvrada_height(block, sizeof block, 3, 1.0f);
+    EXPECT(r.refusal == JUVRADA_ACCEPTED && r.steps == 192);
+    r = juvrada_height(block, sizeof block, 3, -7.0f);
+    EXPECT(r.refusal == JUVRADA_ACCEPTED && r.steps == 96);
+    block[6] = 0;
+    r = juvrada_height(block, 241, 14, 0.0f);
+    EXPECT(r.refusal == JUVRADA_BAD_BLOCK && r.steps == 0 && r.height == 0.0f);
+    r = juvrada_height(block, sizeof block, 14, 0.0f);
+    EXPECT(r.refusal == JUVRADA_BAD_CODE && r.steps == 0 && r.height == 0.0f);
+}
+
+static void strips(void) {
+    static const float triangle[5] = {0.0f, 0.5f, 1.0f, 0.5f, 0.0f};
+    float out[6] = {9.0f, 9.0f, 9.0f, 9.0f, 9.0f, 9.0f};
+    block[9] = 1;
+    juvrada_strip_result r = juvrada_strip(block, sizeof block, 4, out, 5);
+    EXPECT(r.refusal == JUVRADA_ACCEPTED && r.steps == 0);
+    EXPECT(memcmp(out, triangle, sizeof triangle) == 0 && out[5] == 9.0f);
+    block[13] = 1;
+    r = juvrada_strip(block, sizeof block, 4, out, 2);
+    EXPECT(r.refusal == JUVRADA_ACCEPTED && r.steps == 96 + 192);
+    block[9] = block[13] = 0;
+    out[0] = 9.0f;
+    r = juvrada_strip(block, sizeof block, 4, out, 1);
+    EXPECT(r.refusal == JUVRADA_BAD_STRIP && r.steps == 0 && out[0] == 9.0f);
+}
+
+static void marks(void) {
+    float at[JUVRADA_MAX_MARKS] = {9.0f, 9.0f, 9.0f, 9.0f, 9.0f, 9.0f};
+    uint8_t kind[JUVRADA_MAX_MARKS] = {9, 9, 9, 9, 9, 9};
+    juvrada_count_result r = juvrada_marks(block, sizeof block, 0, at, kind);
+    EXPECT(r.refusal == JUVRADA_ACCEPTED && r.count == 4);
+    EXPECT(at[0] == 0.0f && at[1] == 0.0f && at[2] == 0.0f && at[3] == 1.0f && at[4] == 9.0f && at[5] == 9.0f);
+    EXPECT(kind[0] == JUVRADA_MARK_ATTACK && kind[1] == JUVRADA_MARK_DECAY && kind[2] == JUVRADA_MARK_SUSTAIN);
+    EXPECT(kind[3] == JUVRADA_MARK_RELEASE && kind[4] == 9 && kind[5] == 9);
+    r = juvrada_marks(block, 243, 0, at, kind);
+    EXPECT(r.refusal == JUVRADA_BAD_BLOCK && r.count == 0 && at[3] == 1.0f && kind[3] == JUVRADA_MARK_RELEASE);
+}
+
+static void others(void) {
+    juvrada_rest_result rest = juvrada_rest(block, sizeof block, 9);
+    EXPECT(rest.refusal == JUVRADA_ACCEPTED && rest.level == 48.0f / 60.0f);
+    juvrada_scale_result scale = juvrada_scale(block, sizeof block, 10);
+    EXPECT(scale.refusal == JUVRADA_ACCEPTED && scale.kind == JUVRADA_SCALE_OCTAVES && scale.number == 6.0f);
+    juvrada_anchored_result anchored = juvrada_anchored(block, sizeof block, 9);
+    EXPECT(anchored.refusal == JUVRADA_ACCEPTED && anchored.anchored == 1);
+    anchored = juvrada_anchored(block, sizeof block, 13);
+    EXPECT(anchored.refusal == JUVRADA_ACCEPTED && anchored.anchored == 0);
+    anchored = juvrada_anchored(block, sizeof block, 255);
+    EXPECT(anchored.refusal == JUVRADA_BAD_CODE && anchored.anchored == 0);
+}
+
+static void settings(void) {
+    static const float envelope[JUVRADA_MAX_SETTINGS] = {0.0f, 0.0f, 1.0f, 0.0f, 0.0f, 0.25f, 0.25f, 0.25f};
+    float out[JUVRADA_MAX_SETTINGS] = {0};
+    juvrada_count_result r = juvrada_settings(block, sizeof block, 2, out);
+    EXPECT(r.refusal == JUVRADA_ACCEPTED && r.count == 8);
+    for (size_t i = 0; i < JUVRADA_MAX_SETTINGS; i++) EXPECT(out[i] == envelope[i]);
+    r = juvrada_settings(block, sizeof block, 13, out);
+    EXPECT(r.refusal == JUVRADA_ACCEPTED && r.count == 1 && out[0] == 0.0f && out[2] == 1.0f);
+}
+
+static void captions(void) {
+    uint8_t out[4] = {9, 9, 9, 9};
+    EXPECT(juvrada_captions(block, sizeof block, 1, out, 3) == JUVRADA_ACCEPTED);
+    EXPECT(out[0] == JUVRADA_MARK_ATTACK && out[1] == JUVRADA_MARK_SUSTAIN && out[2] == JUVRADA_MARK_RELEASE && out[3] == 9);
+    EXPECT(juvrada_captions(block, sizeof block, 3, out, 2) == JUVRADA_ACCEPTED);
+    EXPECT(out[0] == JUVRADA_NO_CAPTION && out[1] == JUVRADA_NO_CAPTION && out[2] == JUVRADA_MARK_RELEASE);
+    EXPECT(juvrada_captions(block, sizeof block, 1, out, 0) == JUVRADA_BAD_STRIP && out[0] == JUVRADA_NO_CAPTION);
+}
+
+static void gates(void) {
+    float start[JUVRADA_GATES] = {9.0f, 9.0f, 9.0f, 9.0f}, end[JUVRADA_GATES] = {9.0f, 9.0f, 9.0f, 9.0f};
+    juvrada_count_result r = juvrada_gates(block, sizeof block, start, end);
+    EXPECT(r.refusal == JUVRADA_ACCEPTED && r.count == 0 && start[0] == 9.0f && end[0] == 9.0f);
+    block[160] = 255;
+    r = juvrada_bars(block, sizeof block, start, end);
+    EXPECT(r.refusal == JUVRADA_ACCEPTED && r.count == 1);
+    EXPECT(start[0] == 0.0f && end[0] == 4.0f && start[1] == 9.0f && end[1] == 9.0f);
+    r = juvrada_gates(block, sizeof block, start, end);
+    EXPECT(r.refusal == JUVRADA_ACCEPTED && r.count == 4);
+    for (size_t i = 0; i < JUVRADA_GATES; i++) EXPECT(start[i] == (float)i && end[i] == (float)(i + 1));
+    block[160] = 0;
+}
+
+static void taps(void) {
+    static const float at[JUVRADA_TAPS] = {0.5f, 0.25f, 0.0f, 0.0f}, tall[JUVRADA_TAPS] = {0.75f, 0.5f, 1.0f, 1.0f};
+    float mark_at[JUVRADA_MAX_MARKS] = {9.0f, 9.0f, 9.0f, 9.0f, 9.0f, 9.0f};
+    uint8_t kind[JUVRADA_MAX_MARKS] = {9, 9, 9, 9, 9, 9};
+    juvrada_height_result h = juvrada_taps_height(at, tall, 2, 0.5f);
+    EXPECT(h.refusal == JUVRADA_ACCEPTED && h.steps == 0 && h.height == 0.75f);
+    EXPECT(juvrada_taps_height(at, tall, 2, 0.0f).height == 0.0f);
+    EXPECT(juvrada_taps_height(at, tall, 5, 0.0f).height == 1.0f);
+    juvrada_count_result r = juvrada_taps_marks(at, tall, 2, mark_at, kind);
+    EXPECT(r.refusal == JUVRADA_ACCEPTED && r.count == 2 && mark_at[0] == 0.5f && mark_at[1] == 0.25f && mark_at[2] == 9.0f);
+    EXPECT(kind[0] == JUVRADA_MARK_TAP && kind[1] == JUVRADA_MARK_TAP && kind[2] == 9);
+}
+
+int main(void) {
+    heights();
+    strips();
+    marks();
+    others();
+    settings();
+    captions();
+    gates();
+    taps();
+    return failures != 0;
+}

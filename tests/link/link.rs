@@ -1,0 +1,76 @@
+//! Calls every function of the static library from Rust; status 0 where all expectations hold.
+
+use juvrada::*;
+
+#[path = "../../include/juvrada.rs"]
+mod juvrada;
+
+fn main() {
+    // The empty program.
+    let mut block = [0u8; BLOCK];
+    let code = |block: &[u8; BLOCK], code: u8, t: f32| unsafe { juvrada_height(block.as_ptr(), BLOCK, code, t) };
+
+    let r = code(&block, 7, f32::NAN);
+    assert_eq!((r.refusal, r.steps, r.height), (0, 0, 1.0));
+    block[2] = 5;
+    block[6] = 1;
+    let r = code(&block, 5, 1.0);
+    assert_eq!((r.refusal, r.steps), (0, 672));
+    block[2] = 0;
+    block[6] = 0;
+    let r = code(&block, 14, 1.0);
+    assert_eq!((r.refusal, r.steps, r.height), (2, 0, 0.0));
+
+    // A triangle.
+    block[2] = 1;
+    let mut strip = [9.0; 6];
+    let r = unsafe { juvrada_strip(block.as_ptr(), BLOCK, 3, strip.as_mut_ptr(), 5) };
+    assert_eq!((r.refusal, r.steps, strip), (0, 0, [0.0, 0.5, 1.0, 0.5, 0.0, 9.0]));
+    block[2] = 0;
+    let mut long = vec![9.0; MAX_STRIP + 1];
+    let r = unsafe { juvrada_strip(block.as_ptr(), BLOCK, 3, long.as_mut_ptr(), MAX_STRIP + 1) };
+    assert_eq!((r.refusal, r.steps), (3, 0));
+    assert!(long.iter().all(|&x| x == 9.0));
+
+    let (mut at, mut kind) = ([9.0; MAX_MARKS], [9; MAX_MARKS]);
+    let r = unsafe { juvrada_marks(block.as_ptr(), BLOCK, 9, at.as_mut_ptr(), kind.as_mut_ptr()) };
+    assert_eq!((r.refusal, r.count), (0, 1));
+    assert_eq!((at, kind), ([0.5, 9.0, 9.0, 9.0, 9.0, 9.0], [4, 9, 9, 9, 9, 9]));
+
+    let r = unsafe { juvrada_rest(block.as_ptr(), BLOCK, 3) };
+    assert_eq!((r.refusal, r.level), (0, 0.5));
+    let r = unsafe { juvrada_scale(block.as_ptr(), BLOCK, 12) };
+    assert_eq!((r.refusal, r.kind, r.number), (0, 1, 1.0));
+    let r = unsafe { juvrada_anchored(block.as_ptr(), BLOCK, 0) };
+    assert_eq!((r.refusal, r.anchored), (0, 1));
+    let r = unsafe { juvrada_anchored(block.as_ptr(), BLOCK - 1, 0) };
+    assert_eq!((r.refusal, r.anchored), (1, 0));
+
+    let mut settings = [9.0; MAX_SETTINGS];
+    let r = unsafe { juvrada_settings(block.as_ptr(), BLOCK, 10, settings.as_mut_ptr()) };
+    assert_eq!((r.refusal, r.count), (0, 4));
+    assert_eq!(settings, [6.0, 0.0, 3.0, 1.0, 9.0, 9.0, 9.0, 9.0]);
+
+    let mut captions = [9; 4];
+    let refusal = unsafe { juvrada_captions(block.as_ptr(), BLOCK, 0, captions.as_mut_ptr(), 3) };
+    assert_eq!((refusal, captions), (0, [0, 2, 3, 9]));
+
+    let (mut start, mut end) = ([9.0; GATES], [9.0; GATES]);
+    let r = unsafe { juvrada_gates(block.as_ptr(), BLOCK, start.as_mut_ptr(), end.as_mut_ptr()) };
+    assert_eq!((r.refusal, r.count, start, end), (0, 0, [9.0; 4], [9.0; 4]));
+    block[160] = 255;
+    let r = unsafe { juvrada_bars(block.as_ptr(), BLOCK, start.as_mut_ptr(), end.as_mut_ptr()) };
+    assert_eq!((r.refusal, r.count), (0, 1));
+    assert_eq!((start, end), ([0.0, 9.0, 9.0, 9.0], [4.0, 9.0, 9.0, 9.0]));
+
+    let (taps, tall) = ([0.5, f32::NAN, 0.0, 0.0], [0.75, 1.0, 1.0, 1.0]);
+    let r = unsafe { juvrada_taps_height(taps.as_ptr(), tall.as_ptr(), 2, 0.5) };
+    assert_eq!((r.refusal, r.steps, r.height), (0, 0, 0.75));
+    let (mut at, mut kind) = ([9.0; MAX_MARKS], [9; MAX_MARKS]);
+    let r = unsafe { juvrada_taps_marks(taps.as_ptr(), tall.as_ptr(), 2, at.as_mut_ptr(), kind.as_mut_ptr()) };
+    assert_eq!(
+        (r.refusal, r.count, at[0], at[2], kind),
+        (0, 2, 0.5, 9.0, [6, 6, 9, 9, 9, 9])
+    );
+    assert!(at[1].is_nan());
+}
