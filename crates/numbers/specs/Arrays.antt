@@ -1,9 +1,8 @@
--- WHAT A LENT ARRAY HOLDS AFTERWARDS: docs/SPECIFICATION.md, "The C interface". Its first places are written, and the others are as they were. Definitions only.
+-- WHAT IS WRITTEN INTO LENT ARRAYS: docs/SPECIFICATION.md, "The C interface". The first places are written, and the others are as they were. Definitions only.
 use mathlib.Core.Bool.{cond}
-use mathlib.Core.List.{List}
-use Prim.Native.Nat.{ℕ, zero, suc}
+use Prim.Native.Nat.{ℕ}
 use lib.Dec.{ltb}
-use lib.ListN.{getD, set}
+use lib.ListN.{getD}
 use lib.Ieee.{Float, nan}
 use Rattle.generator.specs.declared.Marks.{Marks}
 use Rattle.generator.specs.declared.Gates.{Gates}
@@ -17,11 +16,6 @@ use Rattle.numbers.specs.declared.Numbers.{Numbers}
 -- A count that is never above the most.
 unfoldable pub leastOf : ℕ → ℕ → ℕ
 leastOf count most = cond (ltb count most) count most
-
--- A list with its first k places set to f 0, f 1, ..
-unfoldable pub laid : {A : Type 0} → (ℕ → A) → ℕ → List A → List A
-laid f zero xs = xs
-laid f (suc k) xs = set (laid f k xs) k (f k)
 
 -- Mark i, and its position and its kind's number; past the six places, which no use reaches, a NaN's.
 abbrev pub markAt : Marks → ℕ → Mark

@@ -4,7 +4,8 @@ ghost use mathlib.Core.List.{[], _∷_};
 ghost use Prim.Native.Nat.{_≤_};
 ghost use Rattle.generator.specs.Generator.{scaleNumber, scaleValue};
 ghost use Rattle.generator.specs.Marks.{segmentNumber, kindNumber};
-ghost use Rattle.numbers.specs.Arrays.{leastOf, laid, markPosition, markKind, gateStart, gateEnd, settingAt, marksUsed, gatesUsed, settingsUsed};
+ghost use Rattle.strip.specs.Strip.{written};
+ghost use Rattle.numbers.specs.Arrays.{leastOf, markPosition, markKind, gateStart, gateEnd, settingAt, marksUsed, gatesUsed, settingsUsed};
 ghost use Rattle.numbers.specs.Numbers.{flagOf, shapeNumber, passNumber, stored, settingsNumbers};
 use generator::GATES_DRAWN;
 use generator::Gates;
@@ -236,7 +237,7 @@ pub fn settings_used(numbers: Numbers) -> usize
 }
 
 pub fn lay_mark_positions(marks: Marks, out: &mut [f32; MAX_MARKS])
-    ensures { λ _. ⌜ now (out .exit) ≡ laid (markPosition marks) (marksUsed marks) (now (out .entry)) ⌝ }
+    ensures { λ _. ⌜ now (out .exit) ≡ written (markPosition marks) (marksUsed marks) (now (out .entry)) ⌝ }
 {
     let count = marks_used(marks);
     let mut i: usize = 0;
@@ -247,7 +248,7 @@ pub fn lay_mark_positions(marks: Marks, out: &mut [f32; MAX_MARKS])
 }
 
 pub fn lay_mark_kinds(marks: Marks, out: &mut [u8; MAX_MARKS])
-    ensures { λ _. ⌜ now (out .exit) ≡ laid (markKind marks) (marksUsed marks) (now (out .entry)) ⌝ }
+    ensures { λ _. ⌜ now (out .exit) ≡ written (markKind marks) (marksUsed marks) (now (out .entry)) ⌝ }
 {
     let count = marks_used(marks);
     let mut i: usize = 0;
@@ -260,7 +261,7 @@ pub fn lay_mark_kinds(marks: Marks, out: &mut [u8; MAX_MARKS])
 }
 
 pub fn lay_gate_starts(gates: Gates, out: &mut [f32; GATES_DRAWN])
-    ensures { λ _. ⌜ now (out .exit) ≡ laid (gateStart gates) (gatesUsed gates) (now (out .entry)) ⌝ }
+    ensures { λ _. ⌜ now (out .exit) ≡ written (gateStart gates) (gatesUsed gates) (now (out .entry)) ⌝ }
 {
     let count = gates_used(gates);
     let mut i: usize = 0;
@@ -271,7 +272,7 @@ pub fn lay_gate_starts(gates: Gates, out: &mut [f32; GATES_DRAWN])
 }
 
 pub fn lay_gate_ends(gates: Gates, out: &mut [f32; GATES_DRAWN])
-    ensures { λ _. ⌜ now (out .exit) ≡ laid (gateEnd gates) (gatesUsed gates) (now (out .entry)) ⌝ }
+    ensures { λ _. ⌜ now (out .exit) ≡ written (gateEnd gates) (gatesUsed gates) (now (out .entry)) ⌝ }
 {
     let count = gates_used(gates);
     let mut i: usize = 0;
@@ -282,7 +283,7 @@ pub fn lay_gate_ends(gates: Gates, out: &mut [f32; GATES_DRAWN])
 }
 
 pub fn lay_settings(numbers: Numbers, out: &mut [f32; MAX_SETTINGS])
-    ensures { λ _. ⌜ now (out .exit) ≡ laid (settingAt numbers) (settingsUsed numbers) (now (out .entry)) ⌝ }
+    ensures { λ _. ⌜ now (out .exit) ≡ written (settingAt numbers) (settingsUsed numbers) (now (out .entry)) ⌝ }
 {
     let count = settings_used(numbers);
     let mut i: usize = 0;

@@ -1,14 +1,16 @@
 -- `lay_gate_ends` writes the first places of its array and leaves the others. The loop's invariant: those before i are written. Assumes nothing.
-use mathlib.Core.Path.{_≡_, refl}
+use mathlib.Core.Path.{_≡_, refl, _∙_}
 use Prim.Native.Nat.{_≤_, _-_}
+use native.Mathlib.Nat.{le-antisymm}
 use borrow.Author.Needs.{needs}
-use Rattle.numbers.specs.Arrays.{laid, gateEnd, gatesUsed}
-use Rattle.numbers.proofs.Laying.{laid-next, laid-whole}
+use Rattle.numbers.specs.Arrays.{gateEnd, gatesUsed}
+use Rattle.strip.specs.Strip.{written}
+use Rattle.strip.proofs.Written.{written-next, written-whole}
 use Rattle.numbers.proofs.lay_gate_ends.Statement.{statement}
 use Rattle.numbers.proofs.lay_gate_ends.Tie as tie
 
 abbrev Inv-loop : tie.InvT-loop
-Inv-loop out₀ gates count i₀ out i = (i ≤ count) × (count ≤ 4) × (count ≡ gatesUsed gates) × (out ≡ laid (gateEnd gates) i out₀)
+Inv-loop out₀ gates count i₀ out i = (i ≤ count) × (count ≤ 4) × (count ≡ gatesUsed gates) × (out ≡ written (gateEnd gates) i out₀)
 
 abbrev μ-loop : tie.MeasureT-loop
 μ-loop out₀ gates count i₀ out i = count - i
@@ -17,7 +19,7 @@ gates-used-requires : tie.Need-gates-used-requires Inv-loop μ-loop
 gates-used-requires c κs = search needs
 
 loop-holds : tie.Need-loop-holds Inv-loop μ-loop
-unfolding laid
+unfolding written
 loop-holds c = (search needs, c .gates-used .ensures .1, c .gates-used .ensures .0, refl)
 
 mul-out : tie.Need-mul-out Inv-loop μ-loop
@@ -39,10 +41,10 @@ loop-less : tie.Need-loop-less Inv-loop μ-loop
 loop-less c = search needs
 
 loop-again : tie.Need-loop-again Inv-loop μ-loop
-loop-again c = (search needs, c .before .loop .inv .1, c .before .loop .inv .2, laid-next _ _ _ (c .before .loop .inv .3) refl)
+loop-again c = (search needs, c .before .loop .inv .1, c .before .loop .inv .2, written-next _ _ _ (c .before .loop .inv .3) refl)
 
 returns : tie.Need-returns Inv-loop μ-loop
-returns c = laid-whole _ _ _ (c .before .loop .inv .3) (c .before .loop .inv .0) (c .loop-test .left) (c .before .loop .inv .2)
+returns c = written-whole _ _ _ _ (le-antisymm (c .before .loop .inv .0) (c .loop-test .left) ∙ c .before .loop .inv .2) (c .before .loop .inv .3)
 
 pub lay-gate-ends-spec : {M : Type 1} → statement M
 lay-gate-ends-spec =

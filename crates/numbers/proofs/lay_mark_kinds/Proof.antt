@@ -1,14 +1,16 @@
 -- `lay_mark_kinds` writes the first places of its array and leaves the others. The loop's invariant: those before i are written. Assumes nothing.
-use mathlib.Core.Path.{_≡_, refl}
+use mathlib.Core.Path.{_≡_, refl, _∙_}
 use Prim.Native.Nat.{_≤_, _-_}
+use native.Mathlib.Nat.{le-antisymm}
 use borrow.Author.Needs.{needs}
-use Rattle.numbers.specs.Arrays.{laid, markKind, marksUsed}
-use Rattle.numbers.proofs.Laying.{laid-next, laid-whole}
+use Rattle.numbers.specs.Arrays.{markKind, marksUsed}
+use Rattle.strip.specs.Strip.{written}
+use Rattle.strip.proofs.Written.{written-next, written-whole}
 use Rattle.numbers.proofs.lay_mark_kinds.Statement.{statement}
 use Rattle.numbers.proofs.lay_mark_kinds.Tie as tie
 
 abbrev Inv-loop : tie.InvT-loop
-Inv-loop out₀ marks count i₀ out i = (i ≤ count) × (count ≤ 6) × (count ≡ marksUsed marks) × (out ≡ laid (markKind marks) i out₀)
+Inv-loop out₀ marks count i₀ out i = (i ≤ count) × (count ≤ 6) × (count ≡ marksUsed marks) × (out ≡ written (markKind marks) i out₀)
 
 abbrev μ-loop : tie.MeasureT-loop
 μ-loop out₀ marks count i₀ out i = count - i
@@ -17,7 +19,7 @@ marks-used-requires : tie.Need-marks-used-requires Inv-loop μ-loop
 marks-used-requires c κs = search needs
 
 loop-holds : tie.Need-loop-holds Inv-loop μ-loop
-unfolding laid
+unfolding written
 loop-holds c = (search needs, c .marks-used .ensures .1, c .marks-used .ensures .0, refl)
 
 mul-mark : tie.Need-mul-mark Inv-loop μ-loop
@@ -39,10 +41,10 @@ loop-less : tie.Need-loop-less Inv-loop μ-loop
 loop-less c = search needs
 
 loop-again : tie.Need-loop-again Inv-loop μ-loop
-loop-again c = let inv = c .before .before .before .loop .inv in (search needs, inv .1, inv .2, laid-next _ _ _ (inv .3) (c .kind-number .ensures))
+loop-again c = let inv = c .before .before .before .loop .inv in (search needs, inv .1, inv .2, written-next _ _ _ (inv .3) (c .kind-number .ensures))
 
 returns : tie.Need-returns Inv-loop μ-loop
-returns c = laid-whole _ _ _ (c .before .loop .inv .3) (c .before .loop .inv .0) (c .loop-test .left) (c .before .loop .inv .2)
+returns c = written-whole _ _ _ _ (le-antisymm (c .before .loop .inv .0) (c .loop-test .left) ∙ c .before .loop .inv .2) (c .before .loop .inv .3)
 
 pub lay-mark-kinds-spec : {M : Type 1} → statement M
 lay-mark-kinds-spec =

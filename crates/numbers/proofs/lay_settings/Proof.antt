@@ -1,14 +1,16 @@
 -- `lay_settings` writes the first places of its array and leaves the others. The loop's invariant: those before i are written. Assumes nothing.
-use mathlib.Core.Path.{_≡_, refl}
+use mathlib.Core.Path.{_≡_, refl, _∙_}
 use Prim.Native.Nat.{_≤_, _-_}
+use native.Mathlib.Nat.{le-antisymm}
 use borrow.Author.Needs.{needs}
-use Rattle.numbers.specs.Arrays.{laid, settingAt, settingsUsed}
-use Rattle.numbers.proofs.Laying.{laid-next, laid-whole}
+use Rattle.numbers.specs.Arrays.{settingAt, settingsUsed}
+use Rattle.strip.specs.Strip.{written}
+use Rattle.strip.proofs.Written.{written-next, written-whole}
 use Rattle.numbers.proofs.lay_settings.Statement.{statement}
 use Rattle.numbers.proofs.lay_settings.Tie as tie
 
 abbrev Inv-loop : tie.InvT-loop
-Inv-loop out₀ numbers count i₀ out i = (i ≤ count) × (count ≤ 8) × (count ≡ settingsUsed numbers) × (out ≡ laid (settingAt numbers) i out₀)
+Inv-loop out₀ numbers count i₀ out i = (i ≤ count) × (count ≤ 8) × (count ≡ settingsUsed numbers) × (out ≡ written (settingAt numbers) i out₀)
 
 abbrev μ-loop : tie.MeasureT-loop
 μ-loop out₀ numbers count i₀ out i = count - i
@@ -17,7 +19,7 @@ settings-used-requires : tie.Need-settings-used-requires Inv-loop μ-loop
 settings-used-requires c κs = search needs
 
 loop-holds : tie.Need-loop-holds Inv-loop μ-loop
-unfolding laid
+unfolding written
 loop-holds c = (search needs, c .settings-used .ensures .1, c .settings-used .ensures .0, refl)
 
 mul-out : tie.Need-mul-out Inv-loop μ-loop
@@ -39,10 +41,10 @@ loop-less : tie.Need-loop-less Inv-loop μ-loop
 loop-less c = search needs
 
 loop-again : tie.Need-loop-again Inv-loop μ-loop
-loop-again c = (search needs, c .before .before .loop .inv .1, c .before .before .loop .inv .2, laid-next _ _ _ (c .before .before .loop .inv .3) refl)
+loop-again c = (search needs, c .before .before .loop .inv .1, c .before .before .loop .inv .2, written-next _ _ _ (c .before .before .loop .inv .3) refl)
 
 returns : tie.Need-returns Inv-loop μ-loop
-returns c = laid-whole _ _ _ (c .before .loop .inv .3) (c .before .loop .inv .0) (c .loop-test .left) (c .before .loop .inv .2)
+returns c = written-whole _ _ _ _ (le-antisymm (c .before .loop .inv .0) (c .loop-test .left) ∙ c .before .loop .inv .2) (c .before .loop .inv .3)
 
 pub lay-settings-spec : {M : Type 1} → statement M
 lay-settings-spec =

@@ -1,0 +1,2 @@
+-- The bars of the arpeggiator's gates.
+pub mod Bars

@@ -1,0 +1,28 @@
+-- WHAT IS REFUSED: docs/SPECIFICATION.md, "The three demands". The checks run in the order of the refusals' numbers. Definitions only.
+use mathlib.Core.Bool.{cond}
+use mathlib.Core.List.{List}
+use Prim.Native.Nat.{ℕ}
+use lib.Dec.{eqb}
+use lib.ListN.{length}
+use Rattle.generator.specs.Generator.{generatorOf}
+use Rattle.block.specs.declared.Refusal.{Refusal}
+use Rattle.block.specs.declared.Refusal.the-variants.{Block, Code, Strip}
+use Rattle.block.specs.declared.CodeRead.{CodeRead}
+use Rattle.block.specs.declared.CodeRead.the-variants.{Known, Above}
+use Rattle.block.specs.declared.Chosen.{Chosen}
+use Rattle.block.specs.declared.Chosen.the-variants.{Generator as AGenerator, Refused}
+use Rattle.block.specs.Codes.{byteAt, blockLength, codeOf, shapeOf}
+
+unfoldable pub refusalNumber : Refusal → ℕ
+refusalNumber Block = 1
+refusalNumber Code = 2
+refusalNumber Strip = 3
+
+-- A known code gives the generator of the bytes that it reads.
+unfoldable pub chosenBy : CodeRead → (ℕ → ℕ) → Chosen
+chosenBy (Known c) b = AGenerator (generatorOf (shapeOf c b))
+chosenBy Above b = Refused Code
+
+-- The block's length is tested first, then the code.
+unfoldable pub chosenOf : List ℕ → ℕ → Chosen
+chosenOf block code = cond (eqb (length block) blockLength) (chosenBy (codeOf code) (byteAt block)) (Refused Block)

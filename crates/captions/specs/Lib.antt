@@ -1,0 +1,2 @@
+-- Captions of an envelope's samples.
+pub mod Captions

@@ -1,0 +1,2 @@
+-- What is returned for an answer is returned for one equal to it.
+pub mod Same

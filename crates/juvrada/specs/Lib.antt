@@ -1,0 +1,3 @@
+-- Answers as numbers, and what is promised of the C functions.
+pub mod Results
+pub mod Promises

@@ -1,0 +1,83 @@
+-- ANSWERS AS NUMBERS: docs/SPECIFICATION.md, "The C interface". The refusal's number, 0 for none; beside a refusal all else is 0. Definitions only.
+use mathlib.Core.Bool.{cond}
+use mathlib.Core.List.{List, [], _∷_}
+use Prim.Native.Nat.{ℕ}
+use lib.ListN.{getD}
+use lib.Ieee.{Float, nan}
+use Rattle.exact.specs.Binary32.{zero₃₂}
+use Rattle.generator.specs.Generator.{scaleNumber, scaleValue}
+use Rattle.generator.specs.Marks.{stored}
+use Rattle.taps.specs.declared.Taps.{Taps}
+use Rattle.taps.specs.Formula.{usedOf}
+use Rattle.taps.specs.Marks.{tapMarks}
+use Rattle.numbers.specs.Numbers.{settingsNumbers}
+use Rattle.strip.specs.Strip.{written}
+use Rattle.numbers.specs.Arrays.{settingAt, settingsUsed}
+use Rattle.block.specs.Refusals.{refusalNumber}
+use Rattle.sheet.specs.declared.Answer.{Answer}
+use Rattle.sheet.specs.declared.Answer.the-variants.{Accepted, Refused}
+use Rattle.sheet.specs.declared.HeightAnswer.{HeightAnswer}
+use Rattle.sheet.specs.declared.HeightAnswer.the-variants.{Height as AHeight, Refused as NoHeight}
+use Rattle.sheet.specs.declared.StripAnswer.{StripAnswer}
+use Rattle.sheet.specs.declared.StripAnswer.the-variants.{Filled, Refused as NoStrip}
+use Rattle.sheet.specs.declared.RestAnswer.{RestAnswer}
+use Rattle.sheet.specs.declared.RestAnswer.the-variants.{Rest, Refused as NoRest}
+use Rattle.sheet.specs.declared.ScaleAnswer.{ScaleAnswer}
+use Rattle.sheet.specs.declared.ScaleAnswer.the-variants.{Scale as AScale, Refused as NoScale}
+use Rattle.sheet.specs.declared.AnchoredAnswer.{AnchoredAnswer}
+use Rattle.sheet.specs.declared.AnchoredAnswer.the-variants.{Anchored, Refused as NoAnchor}
+use Rattle.sheet.specs.declared.SettingsAnswer.{SettingsAnswer}
+use Rattle.sheet.specs.declared.SettingsAnswer.the-variants.{Settings, Refused as NoSettings}
+use Rattle.sheet.specs.declared.MarksAnswer.{MarksAnswer}
+use Rattle.juvrada.specs.declared.HeightResult.{HeightResult}
+use Rattle.juvrada.specs.declared.StripResult.{StripResult}
+use Rattle.juvrada.specs.declared.CountResult.{CountResult}
+use Rattle.juvrada.specs.declared.RestResult.{RestResult}
+use Rattle.juvrada.specs.declared.ScaleResult.{ScaleResult}
+use Rattle.juvrada.specs.declared.AnchoredResult.{AnchoredResult}
+
+unfoldable pub answerNumber : Answer → ℕ
+answerNumber Accepted = 0
+answerNumber (Refused why) = refusalNumber why
+
+unfoldable pub heightResult : HeightAnswer → HeightResult
+heightResult (AHeight h) = record { refusal = 0; steps = h .steps; height = h .height }
+heightResult (NoHeight why) = record { refusal = refusalNumber why; steps = 0; height = zero₃₂ }
+
+unfoldable pub stripResult : StripAnswer → StripResult
+stripResult (Filled n) = record { refusal = 0; steps = n }
+stripResult (NoStrip why) = record { refusal = refusalNumber why; steps = 0 }
+
+unfoldable pub restResult : RestAnswer → RestResult
+restResult (Rest x) = record { refusal = 0; level = x }
+restResult (NoRest why) = record { refusal = refusalNumber why; level = zero₃₂ }
+
+unfoldable pub scaleResult : ScaleAnswer → ScaleResult
+scaleResult (AScale s) = record { refusal = 0; kind = scaleNumber s; number = scaleValue s }
+scaleResult (NoScale why) = record { refusal = refusalNumber why; kind = 0; number = zero₃₂ }
+
+unfoldable pub anchoredResult : AnchoredAnswer → AnchoredResult
+anchoredResult (Anchored b) = record { refusal = 0; anchored = cond b 1 0 }
+anchoredResult (NoAnchor why) = record { refusal = refusalNumber why; anchored = 0 }
+
+-- The number of settings, and what the lent array holds afterwards: they stand first, and what is behind them is as it was.
+unfoldable pub settingsResult : SettingsAnswer → CountResult
+settingsResult (Settings s) = record { refusal = 0; count = settingsUsed (settingsNumbers s) }
+settingsResult (NoSettings why) = record { refusal = refusalNumber why; count = 0 }
+
+unfoldable pub settingsAfter : SettingsAnswer → List Float → List Float
+settingsAfter (Settings s) before = written (settingAt (settingsNumbers s)) (settingsUsed (settingsNumbers s)) before
+settingsAfter (NoSettings why) before = before
+
+-- Taps from two arrays of four.
+unfoldable pub tapsOf : List Float → List Float → ℕ → Taps
+tapsOf at tall used =
+    record {
+      at = getD at 0 nan ∷ getD at 1 nan ∷ getD at 2 nan ∷ getD at 3 nan ∷ [];
+      tall = getD tall 0 nan ∷ getD tall 1 nan ∷ getD tall 2 nan ∷ getD tall 3 nan ∷ [];
+      used = used;
+    }
+
+-- The marks of taps, which are never refused.
+unfoldable pub tapsAnswer : Taps → MarksAnswer
+tapsAnswer taps = record { answer = Accepted; marks = stored (tapMarks taps (usedOf taps)) }

@@ -1,0 +1,343 @@
+// The C interface, include/juvrada.h: what crate sheet offers, for callers in another language. A slice is a pointer and a length, an answer a struct of numbers.
+ghost use mathlib.Core.Path.{_≡_};
+ghost use lib.ListN.{length};
+ghost use Rattle.block.specs.Refusals.{chosenOf};
+ghost use Rattle.sheet.specs.Answers.{settingsAnswer, restAnswer, scaleAnswer, anchoredAnswer, marksAnswer, gatesAnswer, barsAnswer, captionsAnswer, captionsAfter};
+ghost use Rattle.juvrada.specs.Results.{answerNumber, heightResult, stripResult, restResult, scaleResult, anchoredResult, settingsResult, settingsAfter, tapsOf, tapsAnswer};
+ghost use Rattle.juvrada.specs.Promises.{HeightReturned, StripReturned, MarksReturned, GatesReturned, TapsReturned};
+use block::refusal_number;
+use curve::Height;
+use generator::GATES_DRAWN;
+use generator::MAX_MARKS;
+use numbers::MAX_SETTINGS;
+use numbers::gates_used;
+use numbers::lay_gate_ends;
+use numbers::lay_gate_starts;
+use numbers::lay_mark_kinds;
+use numbers::lay_mark_positions;
+use numbers::lay_settings;
+use numbers::marks_used;
+use numbers::scale_number;
+use numbers::scale_value;
+use numbers::settings_numbers;
+use numbers::settings_used;
+use sheet::AnchoredAnswer;
+use sheet::Answer;
+use sheet::GatesAnswer;
+use sheet::HeightAnswer;
+use sheet::MarksAnswer;
+use sheet::RestAnswer;
+use sheet::ScaleAnswer;
+use sheet::SettingsAnswer;
+use sheet::StripAnswer;
+use taps::MAX_TAPS;
+use taps::Taps;
+
+#[repr(C)]
+pub struct HeightResult {
+    pub refusal: u32,
+    pub steps: u32,
+    pub height: f32,
+}
+
+#[repr(C)]
+pub struct StripResult {
+    pub refusal: u32,
+    pub steps: u32,
+}
+
+#[repr(C)]
+pub struct CountResult {
+    pub refusal: u32,
+    pub count: u32,
+}
+
+#[repr(C)]
+pub struct RestResult {
+    pub refusal: u32,
+    pub level: f32,
+}
+
+#[repr(C)]
+pub struct ScaleResult {
+    pub refusal: u32,
+    pub kind: u32,
+    pub number: f32,
+}
+
+#[repr(C)]
+pub struct AnchoredResult {
+    pub refusal: u32,
+    pub anchored: u32,
+}
+
+// ---- answers as numbers: the refusal, 0 for none, and beside a refusal nothing but 0
+fn answer_number(answer: Answer) -> u32
+    ensures { λ r. ⌜ r ≡ answerNumber answer ⌝ }
+{
+    match answer {
+        Answer::Accepted => 0,
+        Answer::Refused(why) => refusal_number(why),
+    }
+}
+
+fn height_result(answer: HeightAnswer) -> HeightResult
+    ensures { λ r. ⌜ r ≡ heightResult answer ⌝ }
+{
+    match answer {
+        HeightAnswer::Height(h) => HeightResult {
+            refusal: 0,
+            steps: h.steps,
+            height: h.height,
+        },
+        HeightAnswer::Refused(why) => HeightResult {
+            refusal: refusal_number(why),
+            steps: 0,
+            height: 0.0,
+        },
+    }
+}
+
+fn strip_result(answer: StripAnswer) -> StripResult
+    ensures { λ r. ⌜ r ≡ stripResult answer ⌝ }
+{
+    match answer {
+        StripAnswer::Filled(steps) => StripResult { refusal: 0, steps },
+        StripAnswer::Refused(why) => StripResult {
+            refusal: refusal_number(why),
+            steps: 0,
+        },
+    }
+}
+
+fn rest_result(answer: RestAnswer) -> RestResult
+    ensures { λ r. ⌜ r ≡ restResult answer ⌝ }
+{
+    match answer {
+        RestAnswer::Rest(level) => RestResult { refusal: 0, level },
+        RestAnswer::Refused(why) => RestResult {
+            refusal: refusal_number(why),
+            level: 0.0,
+        },
+    }
+}
+
+fn scale_result(answer: ScaleAnswer) -> ScaleResult
+    ensures { λ r. ⌜ r ≡ scaleResult answer ⌝ }
+{
+    match answer {
+        ScaleAnswer::Scale(scale) => ScaleResult {
+            refusal: 0,
+            kind: scale_number(scale),
+            number: scale_value(scale),
+        },
+        ScaleAnswer::Refused(why) => ScaleResult {
+            refusal: refusal_number(why),
+            kind: 0,
+            number: 0.0,
+        },
+    }
+}
+
+fn anchored_result(answer: AnchoredAnswer) -> AnchoredResult
+    ensures { λ r. ⌜ r ≡ anchoredResult answer ⌝ }
+{
+    match answer {
+        AnchoredAnswer::Anchored(yes) => {
+            if yes {
+                return AnchoredResult {
+                    refusal: 0,
+                    anchored: 1,
+                };
+            }
+            AnchoredResult {
+                refusal: 0,
+                anchored: 0,
+            }
+        }
+        AnchoredAnswer::Refused(why) => AnchoredResult {
+            refusal: refusal_number(why),
+            anchored: 0,
+        },
+    }
+}
+
+// ---- the functions
+#[no_mangle]
+pub extern "C" fn juvrada_height(block: &[u8], code: u8, t: f32) -> HeightResult
+    ensures { λ r. ⌜ HeightReturned (now (block .entry)) code t r ⌝ }
+{
+    height_result(sheet::height(block, code, t))
+}
+
+#[no_mangle]
+pub extern "C" fn juvrada_strip(block: &[u8], code: u8, out: &mut [f32]) -> StripResult
+    ensures { λ r. ⌜ StripReturned (now (block .entry)) code (now (out .entry)) (now (out .exit)) r ⌝ }
+{
+    strip_result(sheet::strip(block, code, out))
+}
+
+// The marks of an answer.
+fn lay_marks(
+    found: MarksAnswer,
+    at: &mut [f32; MAX_MARKS],
+    kind: &mut [u8; MAX_MARKS],
+) -> CountResult
+    ensures { λ r. ⌜ MarksReturned found (now (at .entry)) (now (at .exit)) (now (kind .entry)) (now (kind .exit)) r ⌝ }
+{
+    let marks = found.marks;
+    let answer = found.answer;
+    lay_mark_positions(marks, at);
+    lay_mark_kinds(marks, kind);
+    CountResult {
+        refusal: answer_number(answer),
+        count: marks_used(marks) as u32,
+    }
+}
+
+#[no_mangle]
+pub extern "C" fn juvrada_marks(
+    block: &[u8],
+    code: u8,
+    at: &mut [f32; MAX_MARKS],
+    kind: &mut [u8; MAX_MARKS],
+) -> CountResult
+    ensures { λ r. ⌜ MarksReturned (marksAnswer (chosenOf (now (block .entry)) code)) (now (at .entry)) (now (at .exit)) (now (kind .entry)) (now (kind .exit)) r ⌝ }
+{
+    lay_marks(sheet::marks(block, code), at, kind)
+}
+
+#[no_mangle]
+pub extern "C" fn juvrada_rest(block: &[u8], code: u8) -> RestResult
+    ensures { λ r. ⌜ r ≡ restResult (restAnswer (chosenOf (now (block .entry)) code)) ⌝ }
+{
+    rest_result(sheet::rest(block, code))
+}
+
+#[no_mangle]
+pub extern "C" fn juvrada_scale(block: &[u8], code: u8) -> ScaleResult
+    ensures { λ r. ⌜ r ≡ scaleResult (scaleAnswer (chosenOf (now (block .entry)) code)) ⌝ }
+{
+    scale_result(sheet::scale(block, code))
+}
+
+#[no_mangle]
+pub extern "C" fn juvrada_anchored(block: &[u8], code: u8) -> AnchoredResult
+    ensures { λ r. ⌜ r ≡ anchoredResult (anchoredAnswer (chosenOf (now (block .entry)) code)) ⌝ }
+{
+    anchored_result(sheet::anchored(block, code))
+}
+
+#[no_mangle]
+pub extern "C" fn juvrada_settings(
+    block: &[u8],
+    code: u8,
+    out: &mut [f32; MAX_SETTINGS],
+) -> CountResult
+    ensures { λ r. ⌜ (r ≡ settingsResult (settingsAnswer (chosenOf (now (block .entry)) code))) × (now (out .exit) ≡ settingsAfter (settingsAnswer (chosenOf (now (block .entry)) code)) (now (out .entry))) ⌝ }
+{
+    let answer = sheet::settings(block, code);
+    match answer {
+        SettingsAnswer::Settings(shape) => {
+            let numbers = settings_numbers(shape);
+            lay_settings(numbers, out);
+            CountResult {
+                refusal: 0,
+                count: settings_used(numbers) as u32,
+            }
+        }
+        SettingsAnswer::Refused(why) => CountResult {
+            refusal: refusal_number(why),
+            count: 0,
+        },
+    }
+}
+
+#[no_mangle]
+pub extern "C" fn juvrada_captions(block: &[u8], code: u8, out: &mut [u8]) -> u32
+    ensures { λ r. ⌜ (r ≡ answerNumber (captionsAnswer (chosenOf (now (block .entry)) code) (length (now (out .entry))))) × (now (out .exit) ≡ captionsAfter (chosenOf (now (block .entry)) code) (now (out .entry))) ⌝ }
+{
+    answer_number(sheet::captions(block, code, out))
+}
+
+// The gates or the bars of an answer.
+fn lay_gates(
+    found: GatesAnswer,
+    start: &mut [f32; GATES_DRAWN],
+    end: &mut [f32; GATES_DRAWN],
+) -> CountResult
+    ensures { λ r. ⌜ GatesReturned found (now (start .entry)) (now (start .exit)) (now (end .entry)) (now (end .exit)) r ⌝ }
+{
+    let gates = found.gates;
+    let answer = found.answer;
+    lay_gate_starts(gates, start);
+    lay_gate_ends(gates, end);
+    CountResult {
+        refusal: answer_number(answer),
+        count: gates_used(gates) as u32,
+    }
+}
+
+#[no_mangle]
+pub extern "C" fn juvrada_gates(
+    block: &[u8],
+    start: &mut [f32; GATES_DRAWN],
+    end: &mut [f32; GATES_DRAWN],
+) -> CountResult
+    ensures { λ r. ⌜ GatesReturned (gatesAnswer (now (block .entry))) (now (start .entry)) (now (start .exit)) (now (end .entry)) (now (end .exit)) r ⌝ }
+{
+    lay_gates(sheet::gates(block), start, end)
+}
+
+#[no_mangle]
+pub extern "C" fn juvrada_bars(
+    block: &[u8],
+    start: &mut [f32; GATES_DRAWN],
+    end: &mut [f32; GATES_DRAWN],
+) -> CountResult
+    ensures { λ r. ⌜ GatesReturned (barsAnswer (now (block .entry))) (now (start .entry)) (now (start .exit)) (now (end .entry)) (now (end .exit)) r ⌝ }
+{
+    lay_gates(sheet::bars(block), start, end)
+}
+
+// ---- taps
+fn taps_of(at: &[f32; MAX_TAPS], tall: &[f32; MAX_TAPS], used: u32) -> Taps
+    ensures { λ r. ⌜ r ≡ tapsOf (now (at .entry)) (now (tall .entry)) used ⌝ }
+{
+    Taps {
+        at: [at[0], at[1], at[2], at[3]],
+        tall: [tall[0], tall[1], tall[2], tall[3]],
+        used: used as usize,
+    }
+}
+
+#[no_mangle]
+pub extern "C" fn juvrada_taps_height(
+    at: &[f32; MAX_TAPS],
+    tall: &[f32; MAX_TAPS],
+    used: u32,
+    t: f32,
+) -> HeightResult
+    ensures { λ r. ⌜ TapsReturned (tapsOf (now (at .entry)) (now (tall .entry)) used) t r ⌝ }
+{
+    let h = sheet::taps_height(taps_of(at, tall, used), t);
+    height_result(HeightAnswer::Height(h))
+}
+
+#[no_mangle]
+pub extern "C" fn juvrada_taps_marks(
+    at: &[f32; MAX_TAPS],
+    tall: &[f32; MAX_TAPS],
+    used: u32,
+    mark_at: &mut [f32; MAX_MARKS],
+    kind: &mut [u8; MAX_MARKS],
+) -> CountResult
+    ensures { λ r. ⌜ MarksReturned (tapsAnswer (tapsOf (now (at .entry)) (now (tall .entry)) used)) (now («mark_at» .entry)) (now («mark_at» .exit)) (now (kind .entry)) (now (kind .exit)) r ⌝ }
+{
+    let marks = taps::taps_marks(taps_of(at, tall, used));
+    let found = MarksAnswer {
+        answer: Answer::Accepted,
+        marks,
+    };
+    lay_marks(found, mark_at, kind)
+}

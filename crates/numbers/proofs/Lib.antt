@@ -1,2 +1,0 @@
--- Writing an array place by place.
-pub mod Laying

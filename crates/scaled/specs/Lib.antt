@@ -1,0 +1,2 @@
+-- A height as a whole number.
+pub mod Scaled

@@ -1,0 +1,49 @@
+-- STRIPS HELD AGAINST NUMBERS FROM OUTSIDE: positions that a program of its own rounded to binary32, lengths and heights of docs/SPECIFICATION.md. Assumes nothing.
+use mathlib.Core.Path.{_≡_, refl}
+use mathlib.Core.Bool.{Bool, true, not, _&&_}
+use mathlib.Core.List.{List, [], _∷_}
+use Prim.Native.Nat.{ℕ}
+use lib.Dec.{T, eqb}
+use lib.Ieee.{binary32, ofBits, toBits, ofInt, isNan, lt, le, eq, neg, add, sub, mul, div}
+use Rattle.exact.specs.Value.{value}
+use Rattle.exact.specs.Binary32.{zero₃₂, half₃₂, one₃₂}
+use Rattle.math.specs.Formulas.{clampOf, floorOf, fractOf}
+use Rattle.math.proofs.Examples.{allPass}
+use Rattle.curve.specs.Curve.{positionOf, drawnOf}
+use Rattle.settings.specs.Settings.{byteOf, shapeOf, turnsOf, lfoOf}
+use Rattle.lfo.specs.Formula.{wrapOf, triangleOf, shapeAtOf}
+use Rattle.walk.specs.Formula.{stepOf, placeOf, fullFrom, fullSteps, walkedOf, lfoHeightOf}
+use Rattle.generator.specs.declared.Shape.{Shape}
+use Rattle.generator.specs.declared.Shape.the-variants.{Lfo as AnLfo}
+use Rattle.generator.specs.Heights.{heightOf}
+use Rattle.strip.specs.declared.Filled.the-variants.{Steps}
+use Rattle.strip.specs.Strip.{sampleOf, lengthFits, written, stepSum, answerOf, stripOf}
+
+-- ---- sample i of n, and the bits of its position
+placed : ℕ × ℕ × ℕ → Bool
+placed r = eqb (toBits binary32 (sampleOf (r .0) (r .1))) (r .2)
+
+places : List (ℕ × ℕ × ℕ)
+places =
+    (2, 0, 0x0000_0000) ∷ (2, 1, 0x3f80_0000) ∷ (3, 1, 0x3f00_0000) ∷ (4, 1, 0x3eaa_aaab) ∷ (4, 2, 0x3f2a_aaab) ∷ (1000, 333, 0x3eaa_aaab)
+    ∷ (4096, 1, 0x3980_0801) ∷ (4096, 2048, 0x3f00_0801) ∷ (4096, 4094, 0x3f7f_efff) ∷ (4096, 4095, 0x3f80_0000) ∷ []
+
+places-known : T (allPass placed places)
+unfolding allPass placed places sampleOf toBits ofBits ofInt div
+places-known = tt
+
+lengths-known : T (not (lengthFits 1) && lengthFits 2 && lengthFits 4096 && not (lengthFits 4097))
+lengths-known = tt
+
+-- ---- a triangle's five samples
+triangle : ℕ → Shape
+triangle slew = AnLfo (lfoOf 1 slew 0 true)
+
+triangle-strip : stripOf (triangle 0) (one₃₂ ∷ one₃₂ ∷ one₃₂ ∷ one₃₂ ∷ one₃₂ ∷ []) ≡ zero₃₂ ∷ half₃₂ ∷ one₃₂ ∷ half₃₂ ∷ zero₃₂ ∷ []
+unfolding triangle stripOf written heightOf lfoHeightOf drawnOf shapeAtOf triangleOf wrapOf positionOf sampleOf clampOf floorOf fractOf value lfoOf shapeOf turnsOf byteOf toBits ofBits ofInt isNan lt le eq neg add sub mul div
+triangle-strip = refl
+
+-- The walk to phase 0 has 96 steps, that to phase 1 has 192.
+slewed-steps : answerOf (triangle 1) 2 ≡ Steps 288
+unfolding triangle answerOf stepSum heightOf lfoHeightOf walkedOf fullSteps fullFrom placeOf stepOf drawnOf positionOf sampleOf clampOf lfoOf shapeOf turnsOf byteOf toBits ofBits ofInt isNan lt le eq neg add sub mul div
+slewed-steps = refl

@@ -1,0 +1,2 @@
+-- Strips of heights.
+pub mod Strip

@@ -1,0 +1,47 @@
+-- A STRIP OF HEIGHTS, AND WHAT FILLING ONE ANSWERS: docs/SPECIFICATION.md, "Strips". Definitions only.
+use mathlib.Core.Bool.{Bool, cond, _&&_}
+use mathlib.Core.List.{List}
+use Prim.Native.Nat.{ℕ, zero, suc, _+_, _-_}
+use lib.Dec.{leb}
+use lib.IntN.{pos}
+use lib.ListN.{length, set}
+use lib.Ieee.{Float, binary32, ofInt}
+use Rattle.exact.specs.Binary32.{_⊘_}
+use Rattle.generator.specs.declared.Shape.{Shape}
+use Rattle.generator.specs.Heights.{heightOf}
+use Rattle.strip.specs.declared.Filled.{Filled}
+use Rattle.strip.specs.declared.Filled.the-variants.{Steps, WrongLength}
+
+-- Number i of those from 0 to `last`, spread from 0 to 1.
+abbrev pub partOf : ℕ → ℕ → Float
+partOf i last = ofInt binary32 (pos i) ⊘ ofInt binary32 (pos last)
+
+-- The position of sample i of n: i / (n - 1).
+unfoldable pub sampleOf : ℕ → ℕ → Float
+sampleOf n i = partOf i (n - 1)
+
+-- The lengths of a strip: 2 to 4,096.
+abbrev pub lengthFits : ℕ → Bool
+lengthFits n = leb 2 n && leb n 4096
+
+-- A slice with its first k elements written: number i holds f i.
+unfoldable pub written : {A : Type 0} → (ℕ → A) → ℕ → List A → List A
+written f zero xs = xs
+written f (suc k) xs = set (written f k xs) k (f k)
+
+-- A strip with the first k of n samples written: sample i holds the height at its own position.
+abbrev pub filledOf : Shape → ℕ → ℕ → List Float → List Float
+filledOf s n k xs = written (λ (i : ℕ). heightOf s (sampleOf n i) .height) k xs
+
+-- The steps of the first k of n samples.
+unfoldable pub stepSum : Shape → ℕ → ℕ → ℕ
+stepSum s n zero = 0
+stepSum s n (suc k) = stepSum s n k + heightOf s (sampleOf n k) .steps
+
+-- What is answered for a strip of n samples: the steps of all, or that its length is refused.
+unfoldable pub answerOf : Shape → ℕ → Filled
+answerOf s n = cond (lengthFits n) (Steps (stepSum s n n)) WrongLength
+
+-- What the strip holds afterwards: every sample, or what it held where its length is refused.
+unfoldable pub stripOf : Shape → List Float → List Float
+stripOf s xs = cond (lengthFits (length xs)) (filledOf s (length xs) (length xs) xs) xs

@@ -1,0 +1,26 @@
+-- `put_byte` puts one byte. Assumes nothing.
+use borrow.Author.Needs.{needs}
+use borrow.Author.Tests.{lt-ltb, le-ltb}
+use Rattle.text.specs.Text.{putByte, putAll}
+use Rattle.text.proofs.put_byte.Statement.{statement}
+use Rattle.text.proofs.put_byte.Tie as tie
+
+slice-write-out : tie.Need-slice-write-out
+slice-write-out c = search needs
+
+add-result : tie.Need-add-result
+add-result c = search needs
+
+same-length : tie.Need-same-length
+same-length c = search needs
+
+returns : tie.Need-returns
+unfolding putByte putAll
+returns c = record { page = simp (lt-ltb _ _ (c .if1 .taken)) }
+
+returns-2 : tie.Need-returns-2
+unfolding putByte putAll
+returns-2 c = record { page = simp (le-ltb _ _ (c .if1 .left)) }
+
+pub put-byte-spec : {M : Type 1} → statement M
+put-byte-spec = tie.close (tie.spec slice-write-out add-result same-length returns returns-2)

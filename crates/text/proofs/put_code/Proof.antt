@@ -1,0 +1,51 @@
+-- `put_code` puts `codeOf`. Assumes nothing.
+use mathlib.Core.Path.{_≡_}
+use mathlib.Core.List.{[], _∷_, _++_}
+use Prim.Native.Nat.{ℕ, _/_, _%_}
+use Rattle.text.specs.Text.{ascii}
+use Rattle.text.specs.Escaped.{upperOf, codeOf}
+use Rattle.text.proofs.Writing.{_⨾_, puts-as}
+use borrow.Author.Needs.{needs}
+use Rattle.text.proofs.put_code.Statement.{statement}
+use Rattle.text.proofs.put_code.Tie as tie
+
+code : (b u v : ℕ) → u ≡ upperOf (b / 16) → v ≡ upperOf (b % 16) → ascii "\\x" ++ (u ∷ []) ++ (v ∷ []) ≡ codeOf b
+unfolding codeOf
+code b u v eu ev = rw (eu, ev)
+
+slice-aggregate-put : tie.Need-slice-aggregate-put
+slice-aggregate-put c = search needs
+
+put-requires : tie.Need-put-requires
+put-requires c κs = search needs
+
+upper-requires : tie.Need-upper-requires
+upper-requires c κs = search needs
+
+put-byte-requires : tie.Need-put-byte-requires
+put-byte-requires c κs = search needs
+
+upper-requires-2 : tie.Need-upper-requires-2
+upper-requires-2 c κs = search needs
+
+put-byte-requires-2 : tie.Need-put-byte-requires-2
+put-byte-requires-2 c κs = search needs
+
+same-length : tie.Need-same-length
+same-length c = search needs
+
+returns : tie.Need-returns
+returns c = puts-as (code _ _ _ (c .before .before .before .before .before .before .before .before .upper .ensures) (c .before .before .before .upper2 .ensures)) (c .before .before .before .before .before .before .before .before .before .before .before .before .put .ensures ⨾ c .before .before .before .before .before .before .before .put-byte .ensures ⨾ c .before .before .put-byte2 .ensures)
+
+pub put-code-spec : {M : Type 1} → statement M
+put-code-spec =
+    tie.close
+    (tie.spec
+    slice-aggregate-put
+    put-requires
+    upper-requires
+    put-byte-requires
+    upper-requires-2
+    put-byte-requires-2
+    same-length
+    returns)

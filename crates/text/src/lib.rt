@@ -1,0 +1,186 @@
+// Text written into a lent buffer. Each writer stores its text from a position on, and answers the next position; what does not fit is left out.
+ghost use mathlib.Core.Path.{_≡_};
+ghost use mathlib.Core.List.{[], _∷_};
+ghost use Prim.Native.Nat.{_+_, _-_, _^_, _<_, _≤_, min};
+ghost use Rattle.text.specs.Text.{Puts};
+ghost use Rattle.text.specs.Spelled.{glyphOf, digitsOf, placesOf, decimalOf, hexOf, fixedOf};
+ghost use Rattle.text.specs.Escaped.{upperOf, codeOf, shownOf, escapedOf, escapedAll};
+
+pub fn put_byte(out: &mut [u8], at: usize, b: u8) -> usize
+    ensures { λ r. ⌜ Puts (now (out .entry)) at (b ∷ []) (now (out .exit)) r ⌝ }
+{
+    if at < out.len() {
+        out[at] = b;
+        return at + 1;
+    }
+    at
+}
+
+pub fn put(out: &mut [u8], at: usize, text: &[u8]) -> usize
+    ensures { λ r. ⌜ Puts (now (out .entry)) at (now (text .entry)) (now (out .exit)) r ⌝ }
+{
+    let mut next = at;
+    let mut i: usize = 0;
+    while i < text.len() {
+        next = put_byte(out, next, text[i]);
+        i += 1;
+    }
+    next
+}
+
+// The character of a digit.
+fn glyph(d: u64) -> u8
+    requires { ⌜ d < 16 ⌝ }
+    ensures { λ r. ⌜ r ≡ glyphOf d ⌝ }
+{
+    if d < 10 {
+        return 48 + d as u8;
+    }
+    87 + d as u8
+}
+
+// A power that fits.
+fn power(base: u64, k: usize) -> u64
+    requires { ⌜ (1 < base) × (base ^ k < 2 ^ 64) ⌝ }
+    ensures { λ r. ⌜ r ≡ base ^ k ⌝ }
+{
+    let mut product: u64 = 1;
+    let mut i: usize = 0;
+    while i < k {
+        product *= base;
+        i += 1;
+    }
+    product
+}
+
+// The last digits of a number, the most significant first.
+fn put_digits(out: &mut [u8], at: usize, n: u64, base: u64, count: usize) -> usize
+    requires { ⌜ (1 < base) × (base ≤ 16) × (base ^ (count - 1) < 2 ^ 64) ⌝ }
+    ensures { λ r. ⌜ Puts (now (out .entry)) at (digitsOf base count n) (now (out .exit)) r ⌝ }
+{
+    let mut next = at;
+    let mut left = count;
+    while left > 0 {
+        left -= 1;
+        let digit = n / power(base, left) % base;
+        next = put_byte(out, next, glyph(digit));
+    }
+    next
+}
+
+// How many digits a number has.
+fn places(n: u64) -> usize
+    ensures { λ r. ⌜ (r ≡ placesOf n) × (1 ≤ r) × (r ≤ 20) ⌝ }
+{
+    let mut k: usize = 1;
+    while k < 20 {
+        if n < power(10, k) {
+            return k;
+        }
+        k += 1;
+    }
+    20
+}
+
+// A number in decimal.
+pub fn put_decimal(out: &mut [u8], at: usize, n: u64) -> usize
+    ensures { λ r. ⌜ Puts (now (out .entry)) at (decimalOf n) (now (out .exit)) r ⌝ }
+{
+    put_digits(out, at, n, 10, places(n))
+}
+
+// Eight hexadecimal digits.
+pub fn put_hex(out: &mut [u8], at: usize, n: u32) -> usize
+    ensures { λ r. ⌜ Puts (now (out .entry)) at (hexOf n) (now (out .exit)) r ⌝ }
+{
+    put_digits(out, at, n as u64, 16, 8)
+}
+
+// A number of places that a number of 64 bits has.
+fn places_shown(places: usize) -> usize
+    ensures { λ r. ⌜ (r ≡ min places 19) × (r ≤ 19) ⌝ }
+{
+    if places < 19 {
+        return places;
+    }
+    19
+}
+
+// A number with a point before its last digits.
+pub fn put_fixed(out: &mut [u8], at: usize, n: u64, places: usize) -> usize
+    ensures { λ r. ⌜ Puts (now (out .entry)) at (fixedOf n places) (now (out .exit)) r ⌝ }
+{
+    let k = places_shown(places);
+    let whole = n / power(10, k);
+    let point = put_decimal(out, at, whole);
+    let rest = put(out, point, b".");
+    put_digits(out, rest, n, 10, k)
+}
+
+// The character of a digit, in capitals.
+fn upper(d: u8) -> u8
+    requires { ⌜ d < 16 ⌝ }
+    ensures { λ r. ⌜ r ≡ upperOf d ⌝ }
+{
+    if d < 10 {
+        return 48 + d;
+    }
+    55 + d
+}
+
+// A byte by its two digits.
+fn put_code(out: &mut [u8], at: usize, b: u8) -> usize
+    ensures { λ r. ⌜ Puts (now (out .entry)) at (codeOf b) (now (out .exit)) r ⌝ }
+{
+    let first = put(out, at, b"\\x");
+    let second = put_byte(out, first, upper(b / 16));
+    put_byte(out, second, upper(b % 16))
+}
+
+// A byte that has no meaning of its own in XML.
+fn put_shown(out: &mut [u8], at: usize, b: u8) -> usize
+    ensures { λ r. ⌜ Puts (now (out .entry)) at (shownOf b) (now (out .exit)) r ⌝ }
+{
+    if b < 32 {
+        return put_code(out, at, b);
+    }
+    if 126 < b {
+        return put_code(out, at, b);
+    }
+    put_byte(out, at, b)
+}
+
+// Any byte as XML text.
+pub fn put_escaped(out: &mut [u8], at: usize, b: u8) -> usize
+    ensures { λ r. ⌜ Puts (now (out .entry)) at (escapedOf b) (now (out .exit)) r ⌝ }
+{
+    if b == 38 {
+        return put(out, at, b"&amp;");
+    }
+    if b == 60 {
+        return put(out, at, b"&lt;");
+    }
+    if b == 62 {
+        return put(out, at, b"&gt;");
+    }
+    if b == 34 {
+        return put(out, at, b"&quot;");
+    }
+    if b == 39 {
+        return put(out, at, b"&#39;");
+    }
+    put_shown(out, at, b)
+}
+
+// Any bytes as XML text.
+pub fn put_escaped_all(out: &mut [u8], at: usize, text: &[u8]) -> usize
+    ensures { λ r. ⌜ Puts (now (out .entry)) at (escapedAll (now (text .entry))) (now (out .exit)) r ⌝ }
+{
+    let mut next = at;
+    let mut i: usize = 0;
+    while i < text.len() {
+        next = put_escaped(out, next, text[i]);
+        i += 1;
+    }
+    next
+}
