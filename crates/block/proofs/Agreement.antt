@@ -9,12 +9,12 @@ use Rattle.generator.specs.Gates.{gatesOf}
 use Rattle.block.specs.declared.Code.{Code}
 use Rattle.block.specs.declared.Code.the-variants.{VcaEnvelope, VcfEnvelope, ModEnvelope, LfoOne, LfoTwo, LfoOneUnipolar, LfoTwoUnipolar, FadeOne, FadeTwo, LowPass, HighPass, OscillatorOne, OscillatorTwo, Noise}
 use Rattle.block.specs.declared.CodeRead.the-variants.{Known}
-use Rattle.block.specs.Codes.{blockLength, gatesByte, byteAt, codeOf, bytesOf, Agree, envelopeAt, lfoAt, lfoUnipolarAt, shapeOf}
+use Rattle.block.specs.Codes.{blockLength, gatesByte, byteAt, codeOf, bytesOf, Agree, envelopeAt, lfoAt, shapeOf}
 use Rattle.block.specs.Refusals.{chosenBy, chosenOf}
 
 -- ---- THE THEOREM
 pub agreement : (c : Code) (a b : ℕ → ℕ) → Agree (bytesOf c) a b → shapeOf c a ≡ shapeOf c b
-unfolding Agree bytesOf shapeOf envelopeAt lfoAt lfoUnipolarAt
+unfolding Agree bytesOf shapeOf envelopeAt lfoAt
 agreement VcaEnvelope a b h = simp (h .0, h .1 .0, h .1 .1 .0, h .1 .1 .1 .0, h .1 .1 .1 .1 .0, h .1 .1 .1 .1 .1 .0, h .1 .1 .1 .1 .1 .1 .0, h .1 .1 .1 .1 .1 .1 .1 .0)
 agreement VcfEnvelope a b h = simp (h .0, h .1 .0, h .1 .1 .0, h .1 .1 .1 .0, h .1 .1 .1 .1 .0, h .1 .1 .1 .1 .1 .0, h .1 .1 .1 .1 .1 .1 .0, h .1 .1 .1 .1 .1 .1 .1 .0)
 agreement ModEnvelope a b h = simp (h .0, h .1 .0, h .1 .1 .0, h .1 .1 .1 .0, h .1 .1 .1 .1 .0, h .1 .1 .1 .1 .1 .0, h .1 .1 .1 .1 .1 .1 .0, h .1 .1 .1 .1 .1 .1 .1 .0)

@@ -18,12 +18,12 @@ use Rattle.generator.proofs.EveryShape.{ShapeRange, every-shape}
 use Rattle.generator.proofs.EveryBlock.{envelope-shape-range, lfo-shape-range, fade-shape-range, low-pass-shape-range, high-pass-shape-range, oscillator-one-shape-range, oscillator-two-shape-range, noise-shape-range}
 use Rattle.block.specs.declared.Code.{Code}
 use Rattle.block.specs.declared.Code.the-variants.{VcaEnvelope, VcfEnvelope, ModEnvelope, LfoOne, LfoTwo, LfoOneUnipolar, LfoTwoUnipolar, FadeOne, FadeTwo, LowPass, HighPass, OscillatorOne, OscillatorTwo, Noise}
-use Rattle.block.specs.Codes.{envelopeAt, lfoAt, lfoUnipolarAt, shapeOf}
+use Rattle.block.specs.Codes.{envelopeAt, lfoAt, shapeOf}
 use Rattle.block.specs.Promises.{slewedCode, lfoBound, boundOf, CodePromised}
 
 -- ---- every byte gives settings in their ranges
 code-range : (c : Code) (b : ℕ → ℕ) → ((n : ℕ) → b n < 256) → ShapeRange (shapeOf c b)
-unfolding shapeOf envelopeAt lfoAt lfoUnipolarAt
+unfolding shapeOf envelopeAt lfoAt
 code-range VcaEnvelope b h = envelope-shape-range (b 53) (b 54) (b 55) (b 56) (b 58) (b 59) (b 60) (b 61) (h 53) (h 54) (h 55) (h 56) (h 58) (h 59) (h 60) (h 61)
 code-range VcfEnvelope b h = envelope-shape-range (b 62) (b 63) (b 64) (b 65) (b 67) (b 68) (b 69) (b 70) (h 62) (h 63) (h 64) (h 65) (h 67) (h 68) (h 69) (h 70)
 code-range ModEnvelope b h = envelope-shape-range (b 71) (b 72) (b 73) (b 74) (b 76) (b 77) (b 78) (b 79) (h 71) (h 72) (h 73) (h 74) (h 76) (h 77) (h 78) (h 79)
@@ -50,7 +50,7 @@ slew-off (suc n) l = rw (ne-eqb (suc n) 0 (λ e. omega arith)) (is-false (le (by
 
 -- so a code's walk and its bound are its shape's
 code-slewed : (c : Code) (b : ℕ → ℕ) → ((n : ℕ) → b n < 256) → slewed (shapeOf c b) ≡ slewedCode c b
-unfolding slewed shapeOf envelopeAt lfoAt lfoUnipolarAt lfoOf slewedCode
+unfolding slewed shapeOf envelopeAt lfoAt lfoOf slewedCode
 code-slewed VcaEnvelope b h = refl
 code-slewed VcfEnvelope b h = refl
 code-slewed ModEnvelope b h = refl
@@ -67,7 +67,7 @@ code-slewed OscillatorTwo b h = refl
 code-slewed Noise b h = refl
 
 code-bound : (c : Code) (b : ℕ → ℕ) → ((n : ℕ) → b n < 256) → shape.boundOf (shapeOf c b) ≡ boundOf c b
-unfolding shape.boundOf shapeOf envelopeAt lfoAt lfoUnipolarAt lfoOf lfoBound boundOf
+unfolding shape.boundOf shapeOf envelopeAt lfoAt lfoOf lfoBound boundOf
 code-bound VcaEnvelope b h = refl
 code-bound VcfEnvelope b h = refl
 code-bound ModEnvelope b h = refl

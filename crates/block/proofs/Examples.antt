@@ -24,7 +24,7 @@ use Rattle.block.specs.declared.CodeRead.{CodeRead}
 use Rattle.block.specs.declared.CodeRead.the-variants.{Known, Above}
 use Rattle.block.specs.declared.Chosen.{Chosen}
 use Rattle.block.specs.declared.Chosen.the-variants.{Generator as AGenerator, Refused}
-use Rattle.block.specs.Codes.{blockLength, codeOf, bytesOf, envelopeAt, lfoAt, lfoUnipolarAt, shapeOf}
+use Rattle.block.specs.Codes.{blockLength, codeOf, bytesOf, envelopeAt, lfoAt, shapeOf}
 use Rattle.block.specs.Refusals.{refusalNumber, chosenBy, chosenOf}
 
 -- ---- refusals
@@ -116,7 +116,7 @@ holds : ℕ × List (ℕ × ℕ) × List ℕ → Bool
 holds r = same (chosenWords (codeOf (r .0)) (reading (r .1))) (r .2)
 
 settings-agree : T (allPass holds settingsRows)
-unfolding allPass holds settingsRows same reading chosenWords words word flag shapeNumber passNumber codeOf shapeOf envelopeAt lfoAt lfoUnipolarAt byteOf totalOf firstOf secondOf thirdOf slopeOf sloped sustainEndOf bendOf envelopeOf shape.shapeOf turnsOf lfoOf fadeOf poleSlopeOf lowPassOf highPassOf depthOf widthOf sweepOf oscillatorOneOf oscillatorTwoOf noiseOf toBits ofBits ofInt exp2Of exp2Within exp2Coefficients clampOf lt horner fractOf floorOf scaleOf value add sub mul div
+unfolding allPass holds settingsRows same reading chosenWords words word flag shapeNumber passNumber codeOf shapeOf envelopeAt lfoAt byteOf totalOf firstOf secondOf thirdOf slopeOf sloped sustainEndOf bendOf envelopeOf shape.shapeOf turnsOf lfoOf fadeOf poleSlopeOf lowPassOf highPassOf depthOf widthOf sweepOf oscillatorOneOf oscillatorTwoOf noiseOf toBits ofBits ofInt exp2Of exp2Within exp2Coefficients clampOf lt horner fractOf floorOf scaleOf value add sub mul div
 settings-agree = tt
 
 -- ---- the bytes lie in the block

@@ -3,3 +3,4 @@ pub mod Numbers
 pub mod Agreement
 pub mod EveryCode
 pub mod Examples
+pub mod Answered

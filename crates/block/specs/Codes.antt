@@ -1,6 +1,6 @@
 -- THE BLOCK AND ITS CODES: docs/SPECIFICATION.md, "The block and its codes". A reading gives the byte of each number. Definitions only.
 use mathlib.Core.Path.{_≡_}
-use mathlib.Core.Bool.{true, false, cond}
+use mathlib.Core.Bool.{Bool, true, false, cond}
 use mathlib.Core.List.{List, [], _∷_}
 use Prim.Native.Nat.{ℕ, _+_}
 use lib.Dec.{eqb}
@@ -87,21 +87,18 @@ unfoldable pub envelopeAt : (ℕ → ℕ) → ℕ → Shape
 envelopeAt b n = AnEnvelope (envelopeOf (b n) (b (n + 1)) (b (n + 2)) (b (n + 3)) (b (n + 5)) (b (n + 6)) (b (n + 7)) (b (n + 8)))
 
 -- The LFO of the bytes from n on: its shape is the first, its slew four further, its key sync the next.
-unfoldable pub lfoAt : (ℕ → ℕ) → ℕ → Shape
-lfoAt b n = AnLfo (lfoOf (b n) (b (n + 4)) (b (n + 1)) false)
-
-unfoldable pub lfoUnipolarAt : (ℕ → ℕ) → ℕ → Shape
-lfoUnipolarAt b n = AnLfo (lfoOf (b n) (b (n + 4)) (b (n + 1)) true)
+unfoldable pub lfoAt : (ℕ → ℕ) → ℕ → Bool → Shape
+lfoAt b n unipolar = AnLfo (lfoOf (b n) (b (n + 4)) (b (n + 1)) unipolar)
 
 -- The shape of a code, from a reading.
 unfoldable pub shapeOf : Code → (ℕ → ℕ) → Shape
 shapeOf VcaEnvelope b = envelopeAt b 53
 shapeOf VcfEnvelope b = envelopeAt b 62
 shapeOf ModEnvelope b = envelopeAt b 71
-shapeOf LfoOne b = lfoAt b 2
-shapeOf LfoTwo b = lfoAt b 9
-shapeOf LfoOneUnipolar b = lfoUnipolarAt b 2
-shapeOf LfoTwoUnipolar b = lfoUnipolarAt b 9
+shapeOf LfoOne b = lfoAt b 2 false
+shapeOf LfoTwo b = lfoAt b 9 false
+shapeOf LfoOneUnipolar b = lfoAt b 2 true
+shapeOf LfoTwoUnipolar b = lfoAt b 9 true
 shapeOf FadeOne b = AFade (fadeOf (b 1))
 shapeOf FadeTwo b = AFade (fadeOf (b 8))
 shapeOf LowPass b = AFilter (lowPassOf (b 41) (b 51))

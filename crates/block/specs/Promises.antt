@@ -1,8 +1,10 @@
 -- WHAT IS PROMISED OF A CODE'S HEIGHT, in terms of the block's bytes: docs/SPECIFICATION.md, "The three demands". Definitions only.
 use mathlib.Core.Path.{_≡_}
 use mathlib.Core.Bool.{Bool, false, not, cond}
+use mathlib.Core.List.{List}
 use Prim.Native.Nat.{ℕ}
 use lib.Dec.{T, eqb}
+use lib.ListN.{length}
 use lib.Ieee.{Float}
 use Rattle.exact.specs.Fraction.{Fraction, ratio}
 use Rattle.curve.specs.declared.Height.{Height}
@@ -12,7 +14,11 @@ use Rattle.walk.specs.Steps.{Steps}
 use Rattle.generator.specs.Heights.{heightℚ, phaseOf}
 use Rattle.block.specs.declared.Code.{Code}
 use Rattle.block.specs.declared.Code.the-variants.{VcaEnvelope, VcfEnvelope, ModEnvelope, LfoOne, LfoTwo, LfoOneUnipolar, LfoTwoUnipolar, FadeOne, FadeTwo, LowPass, HighPass, OscillatorOne, OscillatorTwo, Noise}
-use Rattle.block.specs.Codes.{shapeOf}
+use Rattle.block.specs.declared.CodeRead.the-variants.{Known}
+use Rattle.block.specs.declared.HeightAnswer.{HeightAnswer}
+use Rattle.block.specs.declared.HeightAnswer.the-variants.{Height as AHeight}
+use Rattle.block.specs.Codes.{blockLength, byteAt, codeOf, shapeOf}
+use Rattle.block.specs.Refusals.{chosenOf, heightAnswer}
 
 -- Whether a code's height is walked: an LFO's, where its slew byte is not 0.
 unfoldable pub slewedCode : Code → (ℕ → ℕ) → Bool
@@ -57,3 +63,15 @@ pub record CodePromised (c : Code) (b : ℕ → ℕ) (t : Float) (h : Height) : 
   pub drawn : Drawn (h .height) (heightℚ (shapeOf c b) t) (boundOf c b)
   pub walked : T (slewedCode c b) → Steps (phaseOf (shapeOf c b) t) (h .steps)
   pub none : T (not (slewedCode c b)) → h .steps ≡ 0
+
+-- ---- of a block and a code byte
+-- The answer is a height, and of it all is promised that belongs to the code and the block's bytes.
+pub record HeightGiven (c : Code) (block : List ℕ) (t : Float) (r : HeightAnswer) : Type 0 where
+  pub height : Height
+  pub answer : r ≡ AHeight height
+  pub promised : CodePromised c (byteAt block) t height
+
+-- The answer is that of the formulas, refusals included. A block of 242 bytes and a known code are given a height.
+pub record HeightAnswered (block : List ℕ) (code : ℕ) (t : Float) (r : HeightAnswer) : Type 0 where
+  pub equation : r ≡ heightAnswer (chosenOf block code) t
+  pub given : (c : Code) → codeOf code ≡ Known c → length block ≡ blockLength → HeightGiven c block t r

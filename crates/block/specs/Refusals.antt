@@ -4,13 +4,17 @@ use mathlib.Core.List.{List}
 use Prim.Native.Nat.{ℕ}
 use lib.Dec.{eqb}
 use lib.ListN.{length}
+use lib.Ieee.{Float}
 use Rattle.generator.specs.Generator.{generatorOf}
+use Rattle.generator.specs.Heights.{heightOf}
 use Rattle.block.specs.declared.Refusal.{Refusal}
 use Rattle.block.specs.declared.Refusal.the-variants.{Block, Code, Strip}
 use Rattle.block.specs.declared.CodeRead.{CodeRead}
 use Rattle.block.specs.declared.CodeRead.the-variants.{Known, Above}
 use Rattle.block.specs.declared.Chosen.{Chosen}
 use Rattle.block.specs.declared.Chosen.the-variants.{Generator as AGenerator, Refused}
+use Rattle.block.specs.declared.HeightAnswer.{HeightAnswer}
+use Rattle.block.specs.declared.HeightAnswer.the-variants.{Height as AHeight, Refused as NoHeight}
 use Rattle.block.specs.Codes.{byteAt, blockLength, codeOf, shapeOf}
 
 unfoldable pub refusalNumber : Refusal → ℕ
@@ -26,3 +30,8 @@ chosenBy Above b = Refused Code
 -- The block's length is tested first, then the code.
 unfoldable pub chosenOf : List ℕ → ℕ → Chosen
 chosenOf block code = cond (eqb (length block) blockLength) (chosenBy (codeOf code) (byteAt block)) (Refused Block)
+
+-- The height of what is chosen, at any f32.
+unfoldable pub heightAnswer : Chosen → Float → HeightAnswer
+heightAnswer (AGenerator g) t = AHeight (heightOf (g .shape) t)
+heightAnswer (Refused r) t = NoHeight r

@@ -2,19 +2,30 @@
 ghost use mathlib.Core.Path.{_≡_};
 ghost use Prim.Native.Nat.{_+_, _≤_};
 ghost use lib.ListN.{length};
-ghost use Rattle.generator.specs.Generator.{generatorOf};
-ghost use Rattle.block.specs.Codes.{byteAt, codeOf, blockLength, envelopeAt, lfoAt, lfoUnipolarAt, shapeOf};
+ghost use Rattle.generator.specs.Heights.{heightOf};
+ghost use Rattle.block.specs.Codes.{byteAt, codeOf, blockLength, envelopeAt, lfoAt, shapeOf};
 ghost use Rattle.block.specs.Refusals.{refusalNumber, chosenOf};
+ghost use Rattle.block.specs.Promises.{HeightAnswered};
+use curve::Height;
+use envelope::envelope_height;
+use filter::filter_height;
 use generator::Generator;
-use generator::envelope;
-use generator::filter_response;
-use generator::high_pass_response;
-use generator::lfo;
-use generator::lfo_fade;
-use generator::lfo_unipolar;
-use generator::noise;
-use generator::oscillator_one;
-use generator::oscillator_two;
+use generator::Shape;
+use generator::of_shape;
+use settings::Envelope;
+use settings::Lfo;
+use settings::envelope_from;
+use settings::fade_from;
+use settings::high_pass;
+use settings::lfo_from;
+use settings::low_pass_from;
+use settings::noise_from;
+use settings::oscillator_one_from;
+use settings::oscillator_two_from;
+use simple::fade_height;
+use simple::noise_height;
+use simple::oscillator_height;
+use walk::lfo_height;
 
 // Why an input is refused: the block's length, the code, the strip's length.
 pub enum Refusal {
@@ -47,6 +58,11 @@ pub enum CodeRead {
 
 pub enum Chosen {
     Generator(Generator),
+    Refused(Refusal),
+}
+
+pub enum HeightAnswer {
+    Height(Height),
     Refused(Refusal),
 }
 
@@ -85,13 +101,14 @@ pub fn code_from(byte: u8) -> CodeRead
     }
 }
 
+// ---- settings, from the bytes of a whole block
 // The four times and levels from a byte on; one byte between them and their curves is not read.
-fn envelope_at(block: &[u8], from: usize) -> Generator
+fn envelope_at(block: &[u8], from: usize) -> Envelope
     requires { ⌜ from + 8 ≤ 241 ⌝ }
     requires { ⌜ length (now block) ≡ blockLength ⌝ }
-    ensures { λ r. ⌜ r ≡ generatorOf (envelopeAt (byteAt (now (block .entry))) from) ⌝ }
+    ensures { λ r. ⌜ Shape.Envelope r ≡ envelopeAt (byteAt (now (block .entry))) from ⌝ }
 {
-    envelope(
+    envelope_from(
         block[from],
         block[from + 1],
         block[from + 2],
@@ -104,46 +121,69 @@ fn envelope_at(block: &[u8], from: usize) -> Generator
 }
 
 // An LFO's shape, its slew and its key sync.
-fn lfo_at(block: &[u8], from: usize) -> Generator
+fn lfo_at(block: &[u8], from: usize, unipolar: bool) -> Lfo
     requires { ⌜ from + 4 ≤ 241 ⌝ }
     requires { ⌜ length (now block) ≡ blockLength ⌝ }
-    ensures { λ r. ⌜ r ≡ generatorOf (lfoAt (byteAt (now (block .entry))) from) ⌝ }
+    ensures { λ r. ⌜ Shape.Lfo r ≡ lfoAt (byteAt (now (block .entry))) from unipolar ⌝ }
 {
-    lfo(block[from], block[from + 4], block[from + 1])
+    lfo_from(block[from], block[from + 4], block[from + 1], unipolar)
 }
 
-fn lfo_unipolar_at(block: &[u8], from: usize) -> Generator
-    requires { ⌜ from + 4 ≤ 241 ⌝ }
+// The shape of a code, from the bytes that the code reads.
+fn shape_at(block: &[u8], code: Code) -> Shape
     requires { ⌜ length (now block) ≡ blockLength ⌝ }
-    ensures { λ r. ⌜ r ≡ generatorOf (lfoUnipolarAt (byteAt (now (block .entry))) from) ⌝ }
-{
-    lfo_unipolar(block[from], block[from + 4], block[from + 1])
-}
-
-// The generator of a code, from the bytes that the code reads.
-fn generator_at(block: &[u8], code: Code) -> Generator
-    requires { ⌜ length (now block) ≡ blockLength ⌝ }
-    ensures { λ r. ⌜ r ≡ generatorOf (shapeOf code (byteAt (now (block .entry)))) ⌝ }
+    ensures { λ r. ⌜ r ≡ shapeOf code (byteAt (now (block .entry))) ⌝ }
 {
     match code {
-        Code::VcaEnvelope => envelope_at(block, 53),
-        Code::VcfEnvelope => envelope_at(block, 62),
-        Code::ModEnvelope => envelope_at(block, 71),
-        Code::LfoOne => lfo_at(block, 2),
-        Code::LfoTwo => lfo_at(block, 9),
-        Code::LfoOneUnipolar => lfo_unipolar_at(block, 2),
-        Code::LfoTwoUnipolar => lfo_unipolar_at(block, 9),
-        Code::FadeOne => lfo_fade(block[1]),
-        Code::FadeTwo => lfo_fade(block[8]),
-        Code::LowPass => filter_response(block[41], block[51]),
-        Code::HighPass => high_pass_response(),
-        Code::OscillatorOne => oscillator_one(block[16], block[18], block[19], block[25]),
-        Code::OscillatorTwo => oscillator_two(block[26]),
-        Code::Noise => noise(block[33]),
+        Code::VcaEnvelope => Shape::Envelope(envelope_at(block, 53)),
+        Code::VcfEnvelope => Shape::Envelope(envelope_at(block, 62)),
+        Code::ModEnvelope => Shape::Envelope(envelope_at(block, 71)),
+        Code::LfoOne => Shape::Lfo(lfo_at(block, 2, false)),
+        Code::LfoTwo => Shape::Lfo(lfo_at(block, 9, false)),
+        Code::LfoOneUnipolar => Shape::Lfo(lfo_at(block, 2, true)),
+        Code::LfoTwoUnipolar => Shape::Lfo(lfo_at(block, 9, true)),
+        Code::FadeOne => Shape::Fade(fade_from(block[1])),
+        Code::FadeTwo => Shape::Fade(fade_from(block[8])),
+        Code::LowPass => Shape::Filter(low_pass_from(block[41], block[51])),
+        Code::HighPass => Shape::Filter(high_pass()),
+        Code::OscillatorOne => Shape::Oscillator(oscillator_one_from(
+            block[16],
+            block[18],
+            block[19],
+            block[25],
+        )),
+        Code::OscillatorTwo => Shape::Oscillator(oscillator_two_from(block[26])),
+        Code::Noise => Shape::Noise(noise_from(block[33])),
     }
 }
 
-// The block's length is tested first, then the code.
+// The height of a code's shape, which is never stored: a single height so takes as long as its curve.
+fn height_at(block: &[u8], code: Code, t: f32) -> Height
+    requires { ⌜ length (now block) ≡ blockLength ⌝ }
+    ensures { λ r. ⌜ r ≡ heightOf (shapeOf code (byteAt (now (block .entry)))) t ⌝ }
+{
+    match code {
+        Code::VcaEnvelope => envelope_height(envelope_at(block, 53), t),
+        Code::VcfEnvelope => envelope_height(envelope_at(block, 62), t),
+        Code::ModEnvelope => envelope_height(envelope_at(block, 71), t),
+        Code::LfoOne => lfo_height(lfo_at(block, 2, false), t),
+        Code::LfoTwo => lfo_height(lfo_at(block, 9, false), t),
+        Code::LfoOneUnipolar => lfo_height(lfo_at(block, 2, true), t),
+        Code::LfoTwoUnipolar => lfo_height(lfo_at(block, 9, true), t),
+        Code::FadeOne => fade_height(fade_from(block[1]), t),
+        Code::FadeTwo => fade_height(fade_from(block[8]), t),
+        Code::LowPass => filter_height(low_pass_from(block[41], block[51]), t),
+        Code::HighPass => filter_height(high_pass(), t),
+        Code::OscillatorOne => oscillator_height(
+            oscillator_one_from(block[16], block[18], block[19], block[25]),
+            t,
+        ),
+        Code::OscillatorTwo => oscillator_height(oscillator_two_from(block[26]), t),
+        Code::Noise => noise_height(noise_from(block[33]), t),
+    }
+}
+
+// ---- the block's length is tested first, then the code
 pub fn choose(block: &[u8], code: u8) -> Chosen
     ensures { λ r. ⌜ r ≡ chosenOf (now (block .entry)) code ⌝ }
 {
@@ -152,7 +192,24 @@ pub fn choose(block: &[u8], code: u8) -> Chosen
     }
     let read = code_from(code);
     match read {
-        CodeRead::Known(c) => Chosen::Generator(generator_at(block, c)),
+        CodeRead::Known(c) => Chosen::Generator(of_shape(shape_at(block, c))),
         CodeRead::Above => Chosen::Refused(Refusal::Code),
+    }
+}
+
+// The height of what `choose` chooses.
+pub fn height(block: &[u8], code: u8, t: f32) -> HeightAnswer
+    ensures { λ r. ⌜ HeightAnswered (now (block .entry)) code t r ⌝ }
+{
+    if block.len() != BLOCK {
+        return HeightAnswer::Refused(Refusal::Block);
+    }
+    let read = code_from(code);
+    match read {
+        CodeRead::Known(c) => {
+            let drawn = height_at(block, c, t);
+            HeightAnswer::Height(drawn)
+        }
+        CodeRead::Above => HeightAnswer::Refused(Refusal::Code),
     }
 }

@@ -2,7 +2,7 @@
 ghost use mathlib.Core.Path.{_≡_};
 ghost use mathlib.Core.Bool.{true, false};
 ghost use Rattle.settings.specs.Settings.{envelopeOf, lfoOf, fadeOf, lowPassOf, highPassOf, oscillatorOneOf, oscillatorTwoOf, noiseOf};
-ghost use Rattle.generator.specs.Generator.{generatorOf, restOf, anchoredOf};
+ghost use Rattle.generator.specs.Generator.{scaleOf, generatorOf, restOf, anchoredOf};
 ghost use Rattle.generator.specs.Heights.{heightOf};
 ghost use Rattle.generator.specs.Marks.{noMarks, markOf, pushed, pushedAll, stored, cyclesOf, envelopeMarks, fadeMarks, pulseMarks, oscillatorMarks, marksOf};
 ghost use Rattle.generator.specs.Gates.{gateOf, gatesOf};
@@ -105,7 +105,31 @@ pub const FILTER_FLOOR_DB: f32 = -48.0;
 
 pub const FILTER_UNITY: f32 = -FILTER_FLOOR_DB / (FILTER_CEILING_DB - FILTER_FLOOR_DB);
 
-// ---- generators, from bytes
+// ---- generators
+// What a shape's horizontal covers: an LFO's turns, a filter's span on either side of its corner, one turn of an oscillator.
+fn scale_of(shape: Shape) -> Scale
+    ensures { λ r. ⌜ r ≡ scaleOf shape ⌝ }
+{
+    match shape {
+        Shape::Envelope(_) => Scale::Normalised,
+        Shape::Fade(_) => Scale::Normalised,
+        Shape::Lfo(l) => Scale::Turns(l.turns),
+        Shape::Filter(f) => Scale::Octaves(f.span * 2.0),
+        Shape::Oscillator(_) => Scale::Turns(1.0),
+        Shape::Noise(_) => Scale::Normalised,
+    }
+}
+
+pub fn of_shape(shape: Shape) -> Generator
+    ensures { λ r. ⌜ r ≡ generatorOf shape ⌝ }
+{
+    Generator {
+        shape,
+        scale: scale_of(shape),
+    }
+}
+
+// ---- from bytes
 pub fn envelope(
     attack: u8,
     decay: u8,
@@ -118,101 +142,66 @@ pub fn envelope(
 ) -> Generator
     ensures { λ r. ⌜ r ≡ generatorOf (Shape.Envelope (envelopeOf attack decay sustain release «attack_curve» «decay_curve» «sustain_curve» «release_curve»)) ⌝ }
 {
-    Generator {
-        shape: Shape::Envelope(envelope_from(
-            attack,
-            decay,
-            sustain,
-            release,
-            attack_curve,
-            decay_curve,
-            sustain_curve,
-            release_curve,
-        )),
-        scale: Scale::Normalised,
-    }
-}
-
-fn lfo_read(shape: u8, slew: u8, sync: u8, unipolar: bool) -> Generator
-    ensures { λ r. ⌜ r ≡ generatorOf (Shape.Lfo (lfoOf shape slew sync unipolar)) ⌝ }
-{
-    let lfo = lfo_from(shape, slew, sync, unipolar);
-    Generator {
-        shape: Shape::Lfo(lfo),
-        scale: Scale::Turns(lfo.turns),
-    }
+    of_shape(Shape::Envelope(envelope_from(
+        attack,
+        decay,
+        sustain,
+        release,
+        attack_curve,
+        decay_curve,
+        sustain_curve,
+        release_curve,
+    )))
 }
 
 // An LFO about the middle of its range.
 pub fn lfo(shape: u8, slew: u8, sync: u8) -> Generator
     ensures { λ r. ⌜ r ≡ generatorOf (Shape.Lfo (lfoOf shape slew sync false)) ⌝ }
 {
-    lfo_read(shape, slew, sync, false)
+    of_shape(Shape::Lfo(lfo_from(shape, slew, sync, false)))
 }
 
 // An LFO from the bottom of its range.
 pub fn lfo_unipolar(shape: u8, slew: u8, sync: u8) -> Generator
     ensures { λ r. ⌜ r ≡ generatorOf (Shape.Lfo (lfoOf shape slew sync true)) ⌝ }
 {
-    lfo_read(shape, slew, sync, true)
+    of_shape(Shape::Lfo(lfo_from(shape, slew, sync, true)))
 }
 
 pub fn lfo_fade(fade: u8) -> Generator
     ensures { λ r. ⌜ r ≡ generatorOf (Shape.Fade (fadeOf fade)) ⌝ }
 {
-    Generator {
-        shape: Shape::Fade(fade_from(fade)),
-        scale: Scale::Normalised,
-    }
-}
-
-// A filter's span is on either side of its corner.
-fn about_corner(filter: Filter) -> Generator
-    ensures { λ r. ⌜ r ≡ generatorOf (Shape.Filter filter) ⌝ }
-{
-    Generator {
-        shape: Shape::Filter(filter),
-        scale: Scale::Octaves(filter.span * 2.0),
-    }
+    of_shape(Shape::Fade(fade_from(fade)))
 }
 
 pub fn filter_response(resonance: u8, pole: u8) -> Generator
     ensures { λ r. ⌜ r ≡ generatorOf (Shape.Filter (lowPassOf resonance pole)) ⌝ }
 {
-    about_corner(low_pass_from(resonance, pole))
+    of_shape(Shape::Filter(low_pass_from(resonance, pole)))
 }
 
 pub fn high_pass_response() -> Generator
     ensures { λ r. ⌜ r ≡ generatorOf (Shape.Filter highPassOf) ⌝ }
 {
-    about_corner(high_pass())
+    of_shape(Shape::Filter(high_pass()))
 }
 
 pub fn oscillator_one(source: u8, pulse: u8, saw: u8, depth: u8) -> Generator
     ensures { λ r. ⌜ r ≡ generatorOf (Shape.Oscillator (oscillatorOneOf source pulse saw depth)) ⌝ }
 {
-    Generator {
-        shape: Shape::Oscillator(oscillator_one_from(source, pulse, saw, depth)),
-        scale: Scale::Turns(1.0),
-    }
+    of_shape(Shape::Oscillator(oscillator_one_from(source, pulse, saw, depth)))
 }
 
 pub fn oscillator_two(level: u8) -> Generator
     ensures { λ r. ⌜ r ≡ generatorOf (Shape.Oscillator (oscillatorTwoOf level)) ⌝ }
 {
-    Generator {
-        shape: Shape::Oscillator(oscillator_two_from(level)),
-        scale: Scale::Turns(1.0),
-    }
+    of_shape(Shape::Oscillator(oscillator_two_from(level)))
 }
 
 pub fn noise(level: u8) -> Generator
     ensures { λ r. ⌜ r ≡ generatorOf (Shape.Noise (noiseOf level)) ⌝ }
 {
-    Generator {
-        shape: Shape::Noise(noise_from(level)),
-        scale: Scale::Normalised,
-    }
+    of_shape(Shape::Noise(noise_from(level)))
 }
 
 // ---- what a generator says of itself

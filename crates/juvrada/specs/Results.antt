@@ -16,8 +16,8 @@ use Rattle.numbers.specs.Arrays.{settingAt, settingsUsed}
 use Rattle.block.specs.Refusals.{refusalNumber}
 use Rattle.sheet.specs.declared.Answer.{Answer}
 use Rattle.sheet.specs.declared.Answer.the-variants.{Accepted, Refused}
-use Rattle.sheet.specs.declared.HeightAnswer.{HeightAnswer}
-use Rattle.sheet.specs.declared.HeightAnswer.the-variants.{Height as AHeight, Refused as NoHeight}
+use Rattle.block.specs.declared.HeightAnswer.{HeightAnswer}
+use Rattle.block.specs.declared.HeightAnswer.the-variants.{Height as AHeight, Refused as NoHeight}
 use Rattle.sheet.specs.declared.StripAnswer.{StripAnswer}
 use Rattle.sheet.specs.declared.StripAnswer.the-variants.{Filled, Refused as NoStrip}
 use Rattle.sheet.specs.declared.RestAnswer.{RestAnswer}

@@ -6,7 +6,6 @@ use lib.Dec.{eqb}
 use lib.ListN.{length}
 use lib.Ieee.{Float}
 use Rattle.generator.specs.Generator.{restOf, anchoredOf}
-use Rattle.generator.specs.Heights.{heightOf}
 use Rattle.generator.specs.Marks.{noMarks, marksOf}
 use Rattle.generator.specs.Gates.{gatesOf}
 use Rattle.bars.specs.Bars.{barsOf}
@@ -25,8 +24,6 @@ use Rattle.sheet.specs.declared.Answer.{Answer}
 use Rattle.sheet.specs.declared.Answer.the-variants.{Accepted, Refused as IsRefused}
 use Rattle.sheet.specs.declared.SettingsAnswer.{SettingsAnswer}
 use Rattle.sheet.specs.declared.SettingsAnswer.the-variants.{Settings, Refused as NoSettings}
-use Rattle.sheet.specs.declared.HeightAnswer.{HeightAnswer}
-use Rattle.sheet.specs.declared.HeightAnswer.the-variants.{Height as AHeight, Refused as NoHeight}
 use Rattle.sheet.specs.declared.StripAnswer.{StripAnswer}
 use Rattle.sheet.specs.declared.StripAnswer.the-variants.{Filled as AStrip, Refused as NoStrip}
 use Rattle.sheet.specs.declared.MarksAnswer.{MarksAnswer}
@@ -41,10 +38,6 @@ use Rattle.sheet.specs.declared.GatesAnswer.{GatesAnswer}
 unfoldable pub settingsAnswer : Chosen → SettingsAnswer
 settingsAnswer (AGenerator g) = Settings (g .shape)
 settingsAnswer (Refused r) = NoSettings r
-
-unfoldable pub heightAnswer : Chosen → Float → HeightAnswer
-heightAnswer (AGenerator g) t = AHeight (heightOf (g .shape) t)
-heightAnswer (Refused r) t = NoHeight r
 
 -- A strip of n samples: the sum of their steps, or the refusal of its length, which is the last to be looked for.
 unfoldable pub filledAnswer : Filled → StripAnswer

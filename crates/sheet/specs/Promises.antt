@@ -1,4 +1,4 @@
--- WHAT IS PROMISED OF THE HEIGHTS: docs/SPECIFICATION.md, "The three demands". Definitions only.
+-- WHAT IS PROMISED OF STRIPS AND TAPS: docs/SPECIFICATION.md, "The three demands". Definitions only.
 use mathlib.Core.Path.{_≡_}
 use mathlib.Core.List.{List}
 use Prim.Native.Nat.{ℕ, _<_}
@@ -19,23 +19,10 @@ use Rattle.block.specs.declared.CodeRead.the-variants.{Known}
 use Rattle.block.specs.Codes.{blockLength, byteAt, codeOf}
 use Rattle.block.specs.Refusals.{chosenOf}
 use Rattle.block.specs.Promises.{CodePromised}
-use Rattle.sheet.specs.declared.HeightAnswer.{HeightAnswer}
-use Rattle.sheet.specs.declared.HeightAnswer.the-variants.{Height as AHeight}
 use Rattle.sheet.specs.declared.StripAnswer.{StripAnswer}
-use Rattle.sheet.specs.Answers.{heightAnswer, stripAnswer, stripAfter}
+use Rattle.sheet.specs.Answers.{stripAnswer, stripAfter}
 
--- ---- of a block and a code
--- The answer is a height, and of it all is promised that belongs to the code and the block's bytes.
-pub record HeightGiven (c : Code) (block : List ℕ) (t : Float) (r : HeightAnswer) : Type 0 where
-  pub height : Height
-  pub answer : r ≡ AHeight height
-  pub promised : CodePromised c (byteAt block) t height
-
--- The answer is that of the formulas, refusals included. A block of 242 bytes and a known code are given a height.
-pub record HeightAnswered (block : List ℕ) (code : ℕ) (t : Float) (r : HeightAnswer) : Type 0 where
-  pub equation : r ≡ heightAnswer (chosenOf block code) t
-  pub given : (c : Code) → codeOf code ≡ Known c → length block ≡ blockLength → HeightGiven c block t r
-
+-- ---- of a strip
 -- Sample i of a strip, of n: it is the height at its own position, and of that height all is promised that belongs to the code and the block's bytes.
 pub record Sampled (c : Code) (block : List ℕ) (strip : List Float) (i : ℕ) : Type 0 where
   pub height : Height

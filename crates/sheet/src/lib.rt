@@ -3,10 +3,12 @@
 ghost use mathlib.Core.Path.{_≡_};
 ghost use lib.ListN.{length};
 ghost use Rattle.block.specs.Refusals.{chosenOf};
+ghost use Rattle.block.specs.Promises.{HeightAnswered};
 ghost use Rattle.sheet.specs.Answers.{settingsAnswer, marksAnswer, restAnswer, scaleAnswer, anchoredAnswer, captionsAnswer, captionsAfter, gatesAnswer, barsAnswer};
-ghost use Rattle.sheet.specs.Promises.{HeightAnswered, StripAnswered, TapsAnswered};
+ghost use Rattle.sheet.specs.Promises.{StripAnswered, TapsAnswered};
 use block::BLOCK;
 use block::Chosen;
+use block::HeightAnswer;
 use block::Refusal;
 use block::choose;
 use captions::Captioned;
@@ -29,11 +31,6 @@ pub enum Answer {
 
 pub enum SettingsAnswer {
     Settings(Shape),
-    Refused(Refusal),
-}
-
-pub enum HeightAnswer {
-    Height(Height),
     Refused(Refusal),
 }
 
@@ -87,14 +84,7 @@ pub fn settings(block: &[u8], code: u8) -> SettingsAnswer
 pub fn height(block: &[u8], code: u8, t: f32) -> HeightAnswer
     ensures { λ r. ⌜ HeightAnswered (now (block .entry)) code t r ⌝ }
 {
-    let chosen = choose(block, code);
-    match chosen {
-        Chosen::Generator(g) => {
-            let drawn = g.at(t);
-            HeightAnswer::Height(drawn)
-        }
-        Chosen::Refused(r) => HeightAnswer::Refused(r),
-    }
+    block::height(block, code, t)
 }
 
 pub fn marks(block: &[u8], code: u8) -> MarksAnswer

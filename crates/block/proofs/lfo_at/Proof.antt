@@ -1,39 +1,39 @@
--- `lfo_at` is `lfoAt`: an LFO of three bytes, each below the block's end. Assumes nothing.
-use borrow.Author.Needs.{needs}
+-- `lfo_at` is the LFO of `lfoAt`: three bytes, each below the block's end. Assumes nothing.
 use Rattle.block.specs.Codes.{lfoAt}
+use borrow.Author.Needs.{needs}
 use Rattle.block.proofs.lfo_at.Statement.{statement}
 use Rattle.block.proofs.lfo_at.Tie as tie
 
-shared-slice-read-lfo : tie.Need-shared-slice-read-lfo
-shared-slice-read-lfo c = search needs
+shared-slice-read-lfo-from : tie.Need-shared-slice-read-lfo-from
+shared-slice-read-lfo-from c = search needs
 
-add-lfo : tie.Need-add-lfo
-add-lfo c = search needs
+add-lfo-from : tie.Need-add-lfo-from
+add-lfo-from c = search needs
 
-shared-slice-read-lfo-2 : tie.Need-shared-slice-read-lfo-2
-shared-slice-read-lfo-2 c = search needs
+shared-slice-read-lfo-from-2 : tie.Need-shared-slice-read-lfo-from-2
+shared-slice-read-lfo-from-2 c = search needs
 
-add-lfo-2 : tie.Need-add-lfo-2
-add-lfo-2 c = search needs
+add-lfo-from-2 : tie.Need-add-lfo-from-2
+add-lfo-from-2 c = search needs
 
-shared-slice-read-lfo-3 : tie.Need-shared-slice-read-lfo-3
-shared-slice-read-lfo-3 c = search needs
+shared-slice-read-lfo-from-3 : tie.Need-shared-slice-read-lfo-from-3
+shared-slice-read-lfo-from-3 c = search needs
 
-lfo-requires : tie.Need-lfo-requires
-lfo-requires c κs = search needs
+lfo-from-requires : tie.Need-lfo-from-requires
+lfo-from-requires c κs = search needs
 
 returns : tie.Need-returns
 unfolding lfoAt
-returns c = c .lfo .ensures
+returns c = simp (c .lfo-from .ensures)
 
 pub lfo-at-spec : {M : Type 1} → statement M
 lfo-at-spec =
     tie.close
     (tie.spec
-    shared-slice-read-lfo
-    add-lfo
-    shared-slice-read-lfo-2
-    add-lfo-2
-    shared-slice-read-lfo-3
-    lfo-requires
+    shared-slice-read-lfo-from
+    add-lfo-from
+    shared-slice-read-lfo-from-2
+    add-lfo-from-2
+    shared-slice-read-lfo-from-3
+    lfo-from-requires
     returns)

@@ -1,91 +1,117 @@
--- `fill_samples` writes `filledOf` all n samples and answers their `stepSum`. The loop's invariant: both for the first i samples. Assumes nothing.
-use Prim.Native.Nat.{_-_, _≤_}
-use mathlib.Core.Path.{_≡_, refl}
-use native.Mathlib.Nat.{le-antisymm}
-use native.Mathlib.Omega.{arith}
+-- `fill_samples` fills by the family of its generator: only an LFO's heights take steps. Assumes nothing.
+use mathlib.Core.Path.{refl}
+use Rattle.curve.specs.Curve.{drawnOf}
+use Rattle.envelope.specs.Formula as envelope
+use Rattle.simple.specs.Formula.{fadeHeightOf, oscillatorHeightOf, noiseHeightOf}
+use Rattle.filter.specs.Formula as filter
+use Rattle.generator.specs.Heights.{heightOf}
+use Rattle.strip.proofs.Filling.{without-steps, with-steps}
 use borrow.Author.Needs.{needs}
-use lib.ListN.{length, length-set}
-use Rattle.strip.specs.Strip.{written, filledOf, stepSum}
-use Rattle.strip.proofs.Filling.{sample-at, steps-small, total-small, sum-next, filled-next, filled-whole}
 use Rattle.strip.proofs.fill_samples.Statement.{statement}
 use Rattle.strip.proofs.fill_samples.Tie as tie
 
-abbrev Inv-loop : tie.InvT-loop
-Inv-loop g out₀ n last total₀ i₀ out total i =
-    (length out ≡ length out₀) × (i ≤ n) × (total ≡ stepSum (g .shape) n i) × (out ≡ filledOf (g .shape) n i out₀)
+enum-known-shape : tie.Need-enum-known-shape
+enum-known-shape c = search needs
 
-abbrev μ-loop : tie.MeasureT-loop
-μ-loop g out₀ n last total₀ i₀ out total i = n - i
+fill-envelope-requires : tie.Need-fill-envelope-requires
+fill-envelope-requires c κs = search needs
 
-sub-last : tie.Need-sub-last Inv-loop μ-loop
-sub-last c = search needs
+enum-known-shape-2 : tie.Need-enum-known-shape-2
+enum-known-shape-2 c = search needs
 
-cast-last : tie.Need-cast-last Inv-loop μ-loop
-cast-last c = search needs
+fill-fade-requires : tie.Need-fill-fade-requires
+fill-fade-requires c κs = search needs
 
-loop-holds : tie.Need-loop-holds Inv-loop μ-loop
-unfolding stepSum written
-loop-holds c = (search needs, search needs, refl, refl)
+enum-known-shape-3 : tie.Need-enum-known-shape-3
+enum-known-shape-3 c = search needs
 
-cast-sample : tie.Need-cast-sample Inv-loop μ-loop
-cast-sample c = search needs
+fill-lfo-requires : tie.Need-fill-lfo-requires
+fill-lfo-requires c κs = search needs
 
-sample-requires : tie.Need-sample-requires Inv-loop μ-loop
-sample-requires c κs = search needs
+enum-known-shape-4 : tie.Need-enum-known-shape-4
+enum-known-shape-4 c = search needs
 
-mul-out : tie.Need-mul-out Inv-loop μ-loop
-mul-out c = search needs
+fill-filter-requires : tie.Need-fill-filter-requires
+fill-filter-requires c κs = search needs
 
-slice-write-out : tie.Need-slice-write-out Inv-loop μ-loop
-slice-write-out c = search needs
+enum-known-shape-5 : tie.Need-enum-known-shape-5
+enum-known-shape-5 c = search needs
 
-add-total : tie.Need-add-total Inv-loop μ-loop
-add-total c =
-    let l = c .before .before .before in
-    let g = l .before .before .args .g .shape in
-    let inv = l .loop .inv in
-    let h = steps-small g _ _ (sample-at g _ _ _ refl (c .before .sample .ensures)) in
-    let k = total-small g _ _ (inv .2) in
-    omega arith
+fill-oscillator-requires : tie.Need-fill-oscillator-requires
+fill-oscillator-requires c κs = search needs
 
-add-i : tie.Need-add-i Inv-loop μ-loop
-add-i c = search needs
+enum-known-shape-6 : tie.Need-enum-known-shape-6
+enum-known-shape-6 c = search needs
 
-loop-less : tie.Need-loop-less Inv-loop μ-loop
-loop-less c = search needs
+fill-noise-requires : tie.Need-fill-noise-requires
+fill-noise-requires c κs = search needs
 
-loop-again : tie.Need-loop-again Inv-loop μ-loop
-loop-again c =
-    let l = c .before .before .before in
-    let g = l .before .before .args .g .shape in
-    let inv = l .loop .inv in
-    let w = sample-at g _ _ _ refl (c .before .sample .ensures) in
-    (simp length-set (inv .0), search needs, sum-next g _ _ w (inv .2), filled-next g _ _ w _ (inv .3))
+same-length : tie.Need-same-length
+same-length c = search needs
 
-same-length : tie.Need-same-length Inv-loop μ-loop
-same-length c = c .before .loop .inv .0
+returns : tie.Need-returns
+unfolding heightOf envelope.heightOf drawnOf
+returns c = without-steps _ _ _ (c .before .before .before .before .before .shape .given .1) (λ t. refl) (c .before .before .fill-envelope .ensures)
 
-returns : tie.Need-returns Inv-loop μ-loop
-returns c =
-    let inv = c .before .loop .inv in
-    filled-whole (c .before .before .before .args .g .shape) _ _ _ (le-antisymm (inv .1) (c .loop-test .left)) (inv .2) (inv .3)
+same-length-2 : tie.Need-same-length-2
+same-length-2 c = search needs
+
+returns-2 : tie.Need-returns-2
+unfolding heightOf fadeHeightOf drawnOf
+returns-2 c = without-steps _ _ _ (c .before .before .before .before .before .shape2 .given .1) (λ t. refl) (c .before .before .fill-fade .ensures)
+
+same-length-3 : tie.Need-same-length-3
+same-length-3 c = search needs
+
+returns-3 : tie.Need-returns-3
+returns-3 c = with-steps _ _ _ (c .before .before .before .before .before .shape3 .given .1) (c .before .before .fill-lfo .ensures)
+
+same-length-4 : tie.Need-same-length-4
+same-length-4 c = search needs
+
+returns-4 : tie.Need-returns-4
+unfolding heightOf filter.heightOf drawnOf
+returns-4 c = without-steps _ _ _ (c .before .before .before .before .before .shape4 .given .1) (λ t. refl) (c .before .before .fill-filter .ensures)
+
+same-length-5 : tie.Need-same-length-5
+same-length-5 c = search needs
+
+returns-5 : tie.Need-returns-5
+unfolding heightOf oscillatorHeightOf drawnOf
+returns-5 c = without-steps _ _ _ (c .before .before .before .before .before .shape5 .given .1) (λ t. refl) (c .before .before .fill-oscillator .ensures)
+
+same-length-6 : tie.Need-same-length-6
+same-length-6 c = search needs
+
+returns-6 : tie.Need-returns-6
+unfolding heightOf noiseHeightOf drawnOf
+returns-6 c = without-steps _ _ _ (c .before .before .before .before .before .shape6 .given .1) (λ t. refl) (c .before .before .fill-noise .ensures)
 
 pub fill-samples-spec : {M : Type 1} → statement M
 fill-samples-spec =
     tie.close
     (tie.spec
-    Inv-loop
-    μ-loop
-    sub-last
-    cast-last
-    loop-holds
-    cast-sample
-    sample-requires
-    mul-out
-    slice-write-out
-    add-total
-    add-i
-    loop-less
-    loop-again
+    enum-known-shape
+    fill-envelope-requires
+    enum-known-shape-2
+    fill-fade-requires
+    enum-known-shape-3
+    fill-lfo-requires
+    enum-known-shape-4
+    fill-filter-requires
+    enum-known-shape-5
+    fill-oscillator-requires
+    enum-known-shape-6
+    fill-noise-requires
     same-length
-    returns)
+    returns
+    same-length-2
+    returns-2
+    same-length-3
+    returns-3
+    same-length-4
+    returns-4
+    same-length-5
+    returns-5
+    same-length-6
+    returns-6)

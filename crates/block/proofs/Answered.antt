@@ -1,0 +1,32 @@
+-- WHAT IS PROMISED OF A HEIGHT FOLLOWS FROM ITS EQUATION, by the theorem over every code and every block. Assumes nothing.
+use mathlib.Core.Path.{_≡_, _∙_}
+use mathlib.Core.List.{List}
+use Prim.Native.Nat.{ℕ, _<_}
+use lib.Dec.{T}
+use lib.ListN.{length}
+use lib.Ieee.{Float, binary32, fits}
+use borrow.Author.Tests.{eq-eqb}
+use Rattle.generator.specs.Generator.{generatorOf}
+use Rattle.generator.specs.Heights.{heightOf}
+use Rattle.block.specs.declared.Code.{Code}
+use Rattle.block.specs.declared.CodeRead.the-variants.{Known}
+use Rattle.block.specs.declared.HeightAnswer.{HeightAnswer}
+use Rattle.block.specs.declared.HeightAnswer.the-variants.{Height as AHeight}
+use Rattle.block.specs.Codes.{blockLength, byteAt, codeOf, shapeOf}
+use Rattle.block.specs.Refusals.{chosenBy, chosenOf, heightAnswer}
+use Rattle.block.specs.Promises.{HeightAnswered}
+use Rattle.block.proofs.EveryCode.{block-height}
+
+-- a block of 242 bytes and a known code are given a height
+accepted : (block : List ℕ) (code : ℕ) (t : Float) (c : Code) → codeOf code ≡ Known c → length block ≡ blockLength
+    → heightAnswer (chosenOf block code) t ≡ AHeight (heightOf (shapeOf c (byteAt block)) t)
+unfolding heightAnswer chosenOf chosenBy generatorOf
+accepted block code t c k l = simp (eq-eqb (length block) blockLength l, k)
+
+pub height-answered : (block : List ℕ) (code : ℕ) (t : Float) (r : HeightAnswer) → ((n : ℕ) → byteAt block n < 256) → T (fits binary32 t) → r ≡ heightAnswer (chosenOf block code) t
+    → HeightAnswered block code t r
+height-answered block code t r b f e =
+    record {
+      equation = e;
+      given = λ c k l. record { height = heightOf (shapeOf c (byteAt block)) t; answer = e ∙ accepted block code t c k l; promised = block-height c (byteAt block) b t f };
+    }

@@ -1,0 +1,64 @@
+-- `scale_of` meets its contract. Assumes nothing.
+use Rattle.generator.specs.Generator.{scaleOf}
+use borrow.Author.Needs.{needs}
+use Rattle.generator.proofs.scale_of.Statement.{statement}
+use Rattle.generator.proofs.scale_of.Tie as tie
+
+enum-told : tie.Need-enum-told
+enum-told c = search needs
+
+enum-told-2 : tie.Need-enum-told-2
+enum-told-2 c = search needs
+
+enum-known-shape : tie.Need-enum-known-shape
+enum-known-shape c = search needs
+
+enum-known-shape-2 : tie.Need-enum-known-shape-2
+enum-known-shape-2 c = search needs
+
+enum-told-3 : tie.Need-enum-told-3
+enum-told-3 c = search needs
+
+enum-told-4 : tie.Need-enum-told-4
+enum-told-4 c = search needs
+
+returns : tie.Need-returns
+unfolding scaleOf
+returns c = simp (c .enum-told .given .1)
+
+returns-2 : tie.Need-returns-2
+unfolding scaleOf
+returns-2 c = simp (c .enum-told2 .given .1)
+
+returns-3 : tie.Need-returns-3
+unfolding scaleOf
+returns-3 c = simp (c .before .shape .given .1)
+
+returns-4 : tie.Need-returns-4
+unfolding scaleOf
+returns-4 c = simp (c .before .before .shape2 .given .1)
+
+returns-5 : tie.Need-returns-5
+unfolding scaleOf
+returns-5 c = simp (c .enum-told3 .given .1)
+
+returns-6 : tie.Need-returns-6
+unfolding scaleOf
+returns-6 c = simp (c .enum-told4 .given .1)
+
+pub scale-of-spec : {M : Type 1} → statement M
+scale-of-spec =
+    tie.close
+    (tie.spec
+    enum-told
+    enum-told-2
+    enum-known-shape
+    enum-known-shape-2
+    enum-told-3
+    enum-told-4
+    returns
+    returns-2
+    returns-3
+    returns-4
+    returns-5
+    returns-6)

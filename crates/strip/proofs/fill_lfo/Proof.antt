@@ -1,0 +1,96 @@
+-- `fill_lfo` writes every sample and answers the sum of their steps. The loop's invariant: both for the first i samples. Assumes nothing.
+use mathlib.Core.Path.{_≡_, refl}
+use Prim.Native.Nat.{_-_, _≤_}
+use native.Mathlib.Nat.{le-antisymm}
+use native.Mathlib.Omega.{arith}
+use borrow.Author.Needs.{needs}
+use lib.ListN.{length, length-set}
+use Rattle.generator.specs.declared.Shape.the-variants.{Lfo as AnLfo}
+use Rattle.generator.specs.Heights.{heightOf}
+use Rattle.strip.specs.Strip.{written, filledOf, stepSum}
+use Rattle.strip.proofs.Filling.{at-position, steps-small, total-small, sum-next, filled-next, filled-whole}
+use Rattle.strip.proofs.fill_lfo.Statement.{statement}
+use Rattle.strip.proofs.fill_lfo.Tie as tie
+
+abbrev Inv-loop : tie.InvT-loop
+Inv-loop l out₀ count last total₀ i₀ out total i =
+    (length out ≡ length out₀) × (i ≤ count) × (total ≡ stepSum (AnLfo l) count i) × (out ≡ filledOf (AnLfo l) count i out₀)
+
+abbrev μ-loop : tie.MeasureT-loop
+μ-loop l out₀ count last total₀ i₀ out total i = count - i
+
+last-of-requires : tie.Need-last-of-requires Inv-loop μ-loop
+last-of-requires c κs = search needs
+
+loop-holds : tie.Need-loop-holds Inv-loop μ-loop
+unfolding stepSum written
+loop-holds c = (search needs, search needs, refl, refl)
+
+cast-sample-position : tie.Need-cast-sample-position Inv-loop μ-loop
+cast-sample-position c = search needs
+
+sample-position-requires : tie.Need-sample-position-requires Inv-loop μ-loop
+sample-position-requires c κs = search needs
+
+lfo-height-requires : tie.Need-lfo-height-requires Inv-loop μ-loop
+lfo-height-requires c κs = search needs
+
+mul-out : tie.Need-mul-out Inv-loop μ-loop
+mul-out c = search needs
+
+slice-write-out : tie.Need-slice-write-out Inv-loop μ-loop
+slice-write-out c = search needs
+
+add-total : tie.Need-add-total Inv-loop μ-loop
+unfolding heightOf
+add-total c =
+    let l = c .before .before .before .before in
+    let s = AnLfo (l .before .before .before .args .l) in
+    let inv = l .loop .inv in
+    let w = at-position s _ _ _ (l .before .last-of .ensures) (c .before .before .sample-position .ensures) (c .before .lfo-height .ensures) in
+    let h = steps-small s _ _ w in
+    let k = total-small s _ _ (inv .2) in
+    omega arith
+
+add-i : tie.Need-add-i Inv-loop μ-loop
+add-i c = search needs
+
+loop-less : tie.Need-loop-less Inv-loop μ-loop
+loop-less c = search needs
+
+loop-again : tie.Need-loop-again Inv-loop μ-loop
+unfolding heightOf
+loop-again c =
+    let l = c .before .before .before .before in
+    let s = AnLfo (l .before .before .before .args .l) in
+    let inv = l .loop .inv in
+    let w = at-position s _ _ _ (l .before .last-of .ensures) (c .before .before .sample-position .ensures) (c .before .lfo-height .ensures) in
+    (simp length-set (inv .0), search needs, sum-next s _ _ w (inv .2), filled-next s _ _ w _ (inv .3))
+
+same-length : tie.Need-same-length Inv-loop μ-loop
+same-length c = c .before .loop .inv .0
+
+returns : tie.Need-returns Inv-loop μ-loop
+returns c =
+    let inv = c .before .loop .inv in
+    filled-whole (AnLfo (c .before .before .before .before .args .l)) _ _ _ (le-antisymm (inv .1) (c .loop-test .left)) (inv .2) (inv .3)
+
+pub fill-lfo-spec : {M : Type 1} → statement M
+fill-lfo-spec =
+    tie.close
+    (tie.spec
+    Inv-loop
+    μ-loop
+    last-of-requires
+    loop-holds
+    cast-sample-position
+    sample-position-requires
+    lfo-height-requires
+    mul-out
+    slice-write-out
+    add-total
+    add-i
+    loop-less
+    loop-again
+    same-length
+    returns)
