@@ -115,9 +115,15 @@ fn heights(ours: impl Fn(f32) -> f32, theirs: impl Fn(f32) -> f32) -> (f64, f64)
     (a / SINGLE as f64, b / SINGLE as f64)
 }
 
+/// A caller of a library cannot look into it, on either side.
+#[inline(never)]
+fn their_height(code: usize, program: &Program, t: f32) -> f32 {
+    build(code, program).at(t)
+}
+
 fn single(code: usize, program: &Program) -> (f64, f64) {
     let ours = |t: f32| unsafe { juvrada::juvrada_height(black_box(program).0.as_ptr(), BLOCK, code as u8, t).height };
-    let theirs = |t: f32| build(black_box(code), black_box(program)).at(t);
+    let theirs = |t: f32| their_height(black_box(code), black_box(program), t);
     heights(ours, theirs)
 }
 
@@ -142,6 +148,11 @@ fn strip(code: usize, program: &Program, n: usize) -> (f64, f64) {
     best
 }
 
+#[inline(never)]
+fn their_train(taps: &Taps, t: f32) -> f32 {
+    taps.generator().at(t)
+}
+
 fn train(used: u32) -> (f64, f64) {
     let taps = Taps {
         at: [0.1, 0.3, 0.5, 0.9],
@@ -152,7 +163,7 @@ fn train(used: u32) -> (f64, f64) {
         let taps = black_box(&taps);
         juvrada::juvrada_taps_height(taps.at.as_ptr(), taps.tall.as_ptr(), taps.used, t).height
     };
-    let theirs = |t: f32| black_box(&taps).generator().at(t);
+    let theirs = |t: f32| their_train(black_box(&taps), t);
     heights(ours, theirs)
 }
 
