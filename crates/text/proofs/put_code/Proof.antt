@@ -1,5 +1,5 @@
 -- `put_code` puts `codeOf`. Assumes nothing.
-use mathlib.Core.Path.{_≡_}
+use mathlib.Core.Path.{_≡_, refl}
 use mathlib.Core.List.{[], _∷_, _++_}
 use Prim.Native.Nat.{ℕ, _/_, _%_}
 use Rattle.text.specs.Text.{ascii}
@@ -14,7 +14,7 @@ unfolding codeOf
 code b u v eu ev = rw (eu, ev)
 
 slice-aggregate-put : tie.Need-slice-aggregate-put
-slice-aggregate-put c = search needs
+slice-aggregate-put c = refl
 
 put-requires : tie.Need-put-requires
 put-requires c κs = search needs

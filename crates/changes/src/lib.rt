@@ -1,0 +1,111 @@
+// What differs between the bytes of two blocks: which generators' bytes are the same, and a line for each byte that is not.
+ghost use mathlib.Core.Path.{_≡_};
+ghost use Rattle.text.specs.Text.{Puts};
+ghost use Rattle.block.specs.Codes.{byteAt, bytesOf};
+ghost use Rattle.changes.specs.Changes.{sameBytes, changeText, changesText};
+use block::Code;
+use names::put_name;
+use text::put;
+use text::put_decimal;
+
+// ---- bytes
+// A byte of a block, and 0 past its end.
+fn byte_at(block: &[u8], n: u8) -> u8
+    ensures { λ r. ⌜ r ≡ byteAt (now (block .entry)) n ⌝ }
+{
+    let i = n as usize;
+    if i < block.len() {
+        return block[i];
+    }
+    0
+}
+
+// Whether two blocks have the same bytes of those numbers.
+pub fn same_bytes(old: &[u8], new: &[u8], bytes: &[u8]) -> bool
+    ensures { λ r. ⌜ r ≡ sameBytes (now (bytes .entry)) (byteAt (now (old .entry))) (byteAt (now (new .entry))) ⌝ }
+{
+    let mut i: usize = 0;
+    while i < bytes.len() {
+        let n = bytes[i];
+        if byte_at(old, n) != byte_at(new, n) {
+            return false;
+        }
+        i += 1;
+    }
+    true
+}
+
+// A line for a byte that differs, and none for one that does not.
+fn put_change(out: &mut [u8], at: usize, n: u8, a: u8, b: u8) -> usize
+    ensures { λ r. ⌜ Puts (now (out .entry)) at (changeText n a b) (now (out .exit)) r ⌝ }
+{
+    if a == b {
+        return at;
+    }
+    let mut next = put(out, at, b"                            ");
+    next = put_name(out, next, n);
+    next = put(out, next, b" ");
+    next = put_decimal(out, next, a as u64);
+    next = put(out, next, b" -> ");
+    next = put_decimal(out, next, b as u64);
+    put(out, next, b"\n")
+}
+
+// The lines of the bytes of those numbers.
+pub fn put_changes(out: &mut [u8], at: usize, old: &[u8], new: &[u8], bytes: &[u8]) -> usize
+    ensures { λ r. ⌜ Puts (now (out .entry)) at (changesText (now (bytes .entry)) (byteAt (now (old .entry))) (byteAt (now (new .entry)))) (now (out .exit)) r ⌝ }
+{
+    let mut next = at;
+    let mut i: usize = 0;
+    while i < bytes.len() {
+        let n = bytes[i];
+        next = put_change(out, next, n, byte_at(old, n), byte_at(new, n));
+        i += 1;
+    }
+    next
+}
+
+// ---- the bytes that a generator reads
+// Whether they are the same.
+pub fn same(old: &[u8], new: &[u8], code: Code) -> bool
+    ensures { λ r. ⌜ r ≡ sameBytes (bytesOf code) (byteAt (now (old .entry))) (byteAt (now (new .entry))) ⌝ }
+{
+    match code {
+        Code::VcaEnvelope => same_bytes(old, new, &[53, 54, 55, 56, 58, 59, 60, 61]),
+        Code::VcfEnvelope => same_bytes(old, new, &[62, 63, 64, 65, 67, 68, 69, 70]),
+        Code::ModEnvelope => same_bytes(old, new, &[71, 72, 73, 74, 76, 77, 78, 79]),
+        Code::LfoOne => same_bytes(old, new, &[2, 6, 3]),
+        Code::LfoTwo => same_bytes(old, new, &[9, 13, 10]),
+        Code::LfoOneUnipolar => same_bytes(old, new, &[2, 6, 3]),
+        Code::LfoTwoUnipolar => same_bytes(old, new, &[9, 13, 10]),
+        Code::FadeOne => same_bytes(old, new, &[1]),
+        Code::FadeTwo => same_bytes(old, new, &[8]),
+        Code::LowPass => same_bytes(old, new, &[41, 51]),
+        Code::HighPass => true,
+        Code::OscillatorOne => same_bytes(old, new, &[16, 18, 19, 25]),
+        Code::OscillatorTwo => same_bytes(old, new, &[26]),
+        Code::Noise => same_bytes(old, new, &[33]),
+    }
+}
+
+// The lines of those that differ.
+pub fn put_code_changes(out: &mut [u8], at: usize, old: &[u8], new: &[u8], code: Code) -> usize
+    ensures { λ r. ⌜ Puts (now (out .entry)) at (changesText (bytesOf code) (byteAt (now (old .entry))) (byteAt (now (new .entry)))) (now (out .exit)) r ⌝ }
+{
+    match code {
+        Code::VcaEnvelope => put_changes(out, at, old, new, &[53, 54, 55, 56, 58, 59, 60, 61]),
+        Code::VcfEnvelope => put_changes(out, at, old, new, &[62, 63, 64, 65, 67, 68, 69, 70]),
+        Code::ModEnvelope => put_changes(out, at, old, new, &[71, 72, 73, 74, 76, 77, 78, 79]),
+        Code::LfoOne => put_changes(out, at, old, new, &[2, 6, 3]),
+        Code::LfoTwo => put_changes(out, at, old, new, &[9, 13, 10]),
+        Code::LfoOneUnipolar => put_changes(out, at, old, new, &[2, 6, 3]),
+        Code::LfoTwoUnipolar => put_changes(out, at, old, new, &[9, 13, 10]),
+        Code::FadeOne => put_changes(out, at, old, new, &[1]),
+        Code::FadeTwo => put_changes(out, at, old, new, &[8]),
+        Code::LowPass => put_changes(out, at, old, new, &[41, 51]),
+        Code::HighPass => at,
+        Code::OscillatorOne => put_changes(out, at, old, new, &[16, 18, 19, 25]),
+        Code::OscillatorTwo => put_changes(out, at, old, new, &[26]),
+        Code::Noise => put_changes(out, at, old, new, &[33]),
+    }
+}

@@ -1,0 +1,107 @@
+-- THE LINES THAT SAY WHAT TO DIAL IN: docs/SPECIFICATION.md, "The page". A line has a dial's name, its byte in decimal, and a note. Definitions only.
+use mathlib.Core.Bool.{cond}
+use mathlib.Core.List.{List, [], _++_}
+use Prim.Native.Nat.{ℕ, _+_}
+use lib.Dec.{eqb}
+use lib.ListN.{length}
+use Rattle.text.specs.Text.{ascii}
+use Rattle.text.specs.Spelled.{decimalOf}
+use Rattle.block.specs.Codes.{byteAt, blockLength}
+use Rattle.block.specs.declared.Code.{Code}
+use Rattle.block.specs.declared.Code.the-variants.{VcaEnvelope, VcfEnvelope, ModEnvelope, LfoOne, LfoTwo, LfoOneUnipolar, LfoTwoUnipolar, FadeOne, FadeTwo, LowPass, HighPass, OscillatorOne, OscillatorTwo, Noise}
+use Rattle.dials.specs.Notes.{switchNote, shapeNote, polesNote, sourceNote, depthNote}
+
+-- How far below the frame the four lines are, in hundredths of a millimetre.
+abbrev pub lineOne : ℕ
+lineOne = 1300
+
+abbrev pub lineTwo : ℕ
+lineTwo = 1620
+
+abbrev pub lineThree : ℕ
+lineThree = 1940
+
+abbrev pub lineFour : ℕ
+lineFour = 2260
+
+-- The start of the line at y: the name, the byte in bold, and the place of the note.
+unfoldable pub dialStart : ℕ → List ℕ → ℕ → List ℕ
+dialStart y name b =
+    ascii "<text class='d' y='" ++ decimalOf y ++ ascii "'>" ++ name ++ ascii "<tspan class='b' x='2000'>" ++ decimalOf b ++ ascii "</tspan><tspan x='2750'>"
+
+abbrev pub dialEnd : List ℕ
+dialEnd = ascii "</tspan></text>"
+
+-- A line with a note.
+unfoldable pub dialText : ℕ → List ℕ → ℕ → List ℕ → List ℕ
+dialText y name b note = dialStart y name b ++ note ++ dialEnd
+
+-- A line without one.
+unfoldable pub plainDial : ℕ → List ℕ → ℕ → List ℕ
+plainDial y name b = dialStart y name b ++ dialEnd
+
+-- A time or level of an envelope, with its curve for a note.
+unfoldable pub curvedDial : ℕ → List ℕ → ℕ → ℕ → List ℕ
+curvedDial y name b curve = dialStart y name b ++ ascii "curve " ++ decimalOf curve ++ dialEnd
+
+abbrev pub shapeDial : ℕ → List ℕ
+shapeDial b = dialText lineOne (ascii "Shape") b (shapeNote b)
+
+abbrev pub polesDial : ℕ → List ℕ
+polesDial b = dialText lineTwo (ascii "Poles") b (polesNote b)
+
+abbrev pub sourceDial : ℕ → List ℕ
+sourceDial b = dialText lineThree (ascii "PWM source") b (sourceNote b)
+
+-- The depth, whose note depends on the source.
+abbrev pub depthDial : ℕ → ℕ → List ℕ
+depthDial b source = dialText lineFour (ascii "PWM depth") b (depthNote source)
+
+-- ---- the lines of each generator, from a reading of the bytes
+-- An envelope's from byte n on.
+unfoldable pub envelopeDials : (ℕ → ℕ) → ℕ → List ℕ
+envelopeDials b n =
+    curvedDial lineOne (ascii "Attack") (b n) (b (n + 5)) ++ curvedDial lineTwo (ascii "Decay") (b (n + 1)) (b (n + 6)) ++
+    curvedDial lineThree (ascii "Sustain") (b (n + 2)) (b (n + 7)) ++ curvedDial lineFour (ascii "Release") (b (n + 3)) (b (n + 8))
+
+-- An LFO's from byte n on.
+unfoldable pub lfoDials : (ℕ → ℕ) → ℕ → List ℕ
+lfoDials b n =
+    shapeDial (b n) ++ plainDial lineTwo (ascii "Slew rate") (b (n + 4)) ++
+    dialText lineThree (ascii "Key sync") (b (n + 1)) (switchNote (b (n + 1)))
+
+unfoldable pub lowPassDials : (ℕ → ℕ) → List ℕ
+lowPassDials b = plainDial lineOne (ascii "Resonance") (b 41) ++ polesDial (b 51)
+
+-- The high-pass is always the same.
+abbrev pub highPassDials : List ℕ
+highPassDials = ascii "<text class='d' y='1300'>6 dB an octave, fixed</text>"
+
+unfoldable pub oscillatorDials : (ℕ → ℕ) → List ℕ
+oscillatorDials b =
+    dialText lineOne (ascii "Saw") (b 19) (switchNote (b 19)) ++ dialText lineTwo (ascii "Pulse") (b 18) (switchNote (b 18)) ++
+    sourceDial (b 16) ++ depthDial (b 25) (b 16)
+
+-- The only dial of a generator.
+abbrev pub onlyDial : List ℕ → ℕ → List ℕ
+onlyDial name b = plainDial lineOne name b
+
+unfoldable pub dialsOf : Code → (ℕ → ℕ) → List ℕ
+dialsOf VcaEnvelope b = envelopeDials b 53
+dialsOf VcfEnvelope b = envelopeDials b 62
+dialsOf ModEnvelope b = envelopeDials b 71
+dialsOf LfoOne b = lfoDials b 2
+dialsOf LfoTwo b = lfoDials b 9
+dialsOf LfoOneUnipolar b = lfoDials b 2
+dialsOf LfoTwoUnipolar b = lfoDials b 9
+dialsOf FadeOne b = onlyDial (ascii "Fade time") (b 1)
+dialsOf FadeTwo b = onlyDial (ascii "Fade time") (b 8)
+dialsOf LowPass b = lowPassDials b
+dialsOf HighPass b = highPassDials
+dialsOf OscillatorOne b = oscillatorDials b
+dialsOf OscillatorTwo b = onlyDial (ascii "Level") (b 26)
+dialsOf Noise b = onlyDial (ascii "Level") (b 33)
+
+-- The lines of a code for a whole block; a block of another length has none.
+unfoldable pub dialsText : List ℕ → Code → List ℕ
+dialsText block c = cond (eqb (length block) blockLength) (dialsOf c (byteAt block)) []

@@ -1,0 +1,3 @@
+-- The lines of a panel that say what to dial in.
+pub mod Notes
+pub mod Dials

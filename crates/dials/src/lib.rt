@@ -1,0 +1,246 @@
+// The lines of a panel that say what to dial in: each dial's name, its byte, and what the byte stands for.
+ghost use mathlib.Core.Path.{_≡_};
+ghost use Prim.Native.Nat.{_+_, _≤_};
+ghost use lib.ListN.{length};
+ghost use Rattle.text.specs.Text.{Puts};
+ghost use Rattle.block.specs.Codes.{byteAt, blockLength};
+ghost use Rattle.dials.specs.Notes.{switchNote, shapeNote, polesNote, sourceNote, depthNote};
+ghost use Rattle.dials.specs.Dials.{dialStart, dialEnd, dialText, plainDial, onlyDial, curvedDial, shapeDial, polesDial, sourceDial, depthDial, envelopeDials, lfoDials, lowPassDials, oscillatorDials, dialsOf, dialsText};
+use block::BLOCK;
+use block::Code;
+use text::put;
+use text::put_decimal;
+
+// ---- what a byte stands for
+fn put_switch(out: &mut [u8], at: usize, b: u8) -> usize
+    ensures { λ r. ⌜ Puts (now (out .entry)) at (switchNote b) (now (out .exit)) r ⌝ }
+{
+    if b == 0 {
+        return put(out, at, b"off");
+    }
+    put(out, at, b"on")
+}
+
+fn put_shape(out: &mut [u8], at: usize, b: u8) -> usize
+    ensures { λ r. ⌜ Puts (now (out .entry)) at (shapeNote b) (now (out .exit)) r ⌝ }
+{
+    match b {
+        0 => put(out, at, b"Sine"),
+        1 => put(out, at, b"Triangle"),
+        2 => put(out, at, b"Square"),
+        3 => put(out, at, b"Ramp up"),
+        4 => put(out, at, b"Ramp down"),
+        5 => put(out, at, b"Sample and hold"),
+        6 => put(out, at, b"Sample and glide"),
+        7..=255 => put(out, at, b"Sine, unnamed"),
+    }
+}
+
+fn put_poles(out: &mut [u8], at: usize, b: u8) -> usize
+    ensures { λ r. ⌜ Puts (now (out .entry)) at (polesNote b) (now (out .exit)) r ⌝ }
+{
+    match b {
+        0 => put(out, at, b"4 poles"),
+        1 => put(out, at, b"2 poles"),
+        2..=255 => put(out, at, b"4 poles, unnamed"),
+    }
+}
+
+fn put_source(out: &mut [u8], at: usize, b: u8) -> usize
+    ensures { λ r. ⌜ Puts (now (out .entry)) at (sourceNote b) (now (out .exit)) r ⌝ }
+{
+    match b {
+        0 => put(out, at, b"Manual"),
+        1 => put(out, at, b"LFO 1"),
+        2 => put(out, at, b"LFO 2"),
+        3 => put(out, at, b"VCA envelope"),
+        4 => put(out, at, b"VCF envelope"),
+        5 => put(out, at, b"Mod envelope"),
+        6..=255 => put(out, at, b"Manual, unnamed"),
+    }
+}
+
+fn put_depth(out: &mut [u8], at: usize, source: u8) -> usize
+    ensures { λ r. ⌜ Puts (now (out .entry)) at (depthNote source) (now (out .exit)) r ⌝ }
+{
+    if source == 0 {
+        return put(out, at, b"width");
+    }
+    if source <= 5 {
+        return put(out, at, b"sweep");
+    }
+    put(out, at, b"width")
+}
+
+// ---- lines
+fn start(out: &mut [u8], at: usize, y: u64, name: &[u8], b: u8) -> usize
+    ensures { λ r. ⌜ Puts (now (out .entry)) at (dialStart y (now (name .entry)) b) (now (out .exit)) r ⌝ }
+{
+    let mut next = put(out, at, b"<text class='d' y='");
+    next = put_decimal(out, next, y);
+    next = put(out, next, b"'>");
+    next = put(out, next, name);
+    next = put(out, next, b"<tspan class='b' x='2000'>");
+    next = put_decimal(out, next, b as u64);
+    put(out, next, b"</tspan><tspan x='2750'>")
+}
+
+fn end(out: &mut [u8], at: usize) -> usize
+    ensures { λ r. ⌜ Puts (now (out .entry)) at dialEnd (now (out .exit)) r ⌝ }
+{
+    put(out, at, b"</tspan></text>")
+}
+
+// A line with no note.
+fn plain(out: &mut [u8], at: usize, y: u64, name: &[u8], b: u8) -> usize
+    ensures { λ r. ⌜ Puts (now (out .entry)) at (plainDial y (now (name .entry)) b) (now (out .exit)) r ⌝ }
+{
+    let next = start(out, at, y, name, b);
+    end(out, next)
+}
+
+fn switch(out: &mut [u8], at: usize, y: u64, name: &[u8], b: u8) -> usize
+    ensures { λ r. ⌜ Puts (now (out .entry)) at (dialText y (now (name .entry)) b (switchNote b)) (now (out .exit)) r ⌝ }
+{
+    let mut next = start(out, at, y, name, b);
+    next = put_switch(out, next, b);
+    end(out, next)
+}
+
+fn curved(out: &mut [u8], at: usize, y: u64, name: &[u8], b: u8, curve: u8) -> usize
+    ensures { λ r. ⌜ Puts (now (out .entry)) at (curvedDial y (now (name .entry)) b curve) (now (out .exit)) r ⌝ }
+{
+    let mut next = start(out, at, y, name, b);
+    next = put(out, next, b"curve ");
+    next = put_decimal(out, next, curve as u64);
+    end(out, next)
+}
+
+fn shape(out: &mut [u8], at: usize, b: u8) -> usize
+    ensures { λ r. ⌜ Puts (now (out .entry)) at (shapeDial b) (now (out .exit)) r ⌝ }
+{
+    let mut next = start(out, at, 1300, b"Shape", b);
+    next = put_shape(out, next, b);
+    end(out, next)
+}
+
+fn poles(out: &mut [u8], at: usize, b: u8) -> usize
+    ensures { λ r. ⌜ Puts (now (out .entry)) at (polesDial b) (now (out .exit)) r ⌝ }
+{
+    let mut next = start(out, at, 1620, b"Poles", b);
+    next = put_poles(out, next, b);
+    end(out, next)
+}
+
+fn source(out: &mut [u8], at: usize, b: u8) -> usize
+    ensures { λ r. ⌜ Puts (now (out .entry)) at (sourceDial b) (now (out .exit)) r ⌝ }
+{
+    let mut next = start(out, at, 1940, b"PWM source", b);
+    next = put_source(out, next, b);
+    end(out, next)
+}
+
+fn depth(out: &mut [u8], at: usize, b: u8, source: u8) -> usize
+    ensures { λ r. ⌜ Puts (now (out .entry)) at (depthDial b source) (now (out .exit)) r ⌝ }
+{
+    let mut next = start(out, at, 2260, b"PWM depth", b);
+    next = put_depth(out, next, source);
+    end(out, next)
+}
+
+// A generator's only dial.
+pub fn put_dial(out: &mut [u8], at: usize, name: &[u8], b: u8) -> usize
+    ensures { λ r. ⌜ Puts (now (out .entry)) at (onlyDial (now (name .entry)) b) (now (out .exit)) r ⌝ }
+{
+    plain(out, at, 1300, name, b)
+}
+
+// ---- the lines of a generator
+fn envelope_dials(out: &mut [u8], at: usize, block: &[u8], from: usize) -> usize
+    requires { ⌜ from + 8 ≤ 241 ⌝ }
+    requires { ⌜ length (now block) ≡ blockLength ⌝ }
+    ensures { λ r. ⌜ Puts (now (out .entry)) at (envelopeDials (byteAt (now (block .entry))) from) (now (out .exit)) r ⌝ }
+{
+    let mut next = curved(out, at, 1300, b"Attack", block[from], block[from + 5]);
+    next = curved(out, next, 1620, b"Decay", block[from + 1], block[from + 6]);
+    next = curved(
+        out,
+        next,
+        1940,
+        b"Sustain",
+        block[from + 2],
+        block[from + 7],
+    );
+    curved(
+        out,
+        next,
+        2260,
+        b"Release",
+        block[from + 3],
+        block[from + 8],
+    )
+}
+
+fn lfo_dials(out: &mut [u8], at: usize, block: &[u8], from: usize) -> usize
+    requires { ⌜ from + 4 ≤ 241 ⌝ }
+    requires { ⌜ length (now block) ≡ blockLength ⌝ }
+    ensures { λ r. ⌜ Puts (now (out .entry)) at (lfoDials (byteAt (now (block .entry))) from) (now (out .exit)) r ⌝ }
+{
+    let mut next = shape(out, at, block[from]);
+    next = plain(out, next, 1620, b"Slew rate", block[from + 4]);
+    switch(out, next, 1940, b"Key sync", block[from + 1])
+}
+
+fn low_pass_dials(out: &mut [u8], at: usize, block: &[u8]) -> usize
+    requires { ⌜ length (now block) ≡ blockLength ⌝ }
+    ensures { λ r. ⌜ Puts (now (out .entry)) at (lowPassDials (byteAt (now (block .entry)))) (now (out .exit)) r ⌝ }
+{
+    let next = plain(out, at, 1300, b"Resonance", block[41]);
+    poles(out, next, block[51])
+}
+
+fn oscillator_dials(out: &mut [u8], at: usize, block: &[u8]) -> usize
+    requires { ⌜ length (now block) ≡ blockLength ⌝ }
+    ensures { λ r. ⌜ Puts (now (out .entry)) at (oscillatorDials (byteAt (now (block .entry)))) (now (out .exit)) r ⌝ }
+{
+    let mut next = switch(out, at, 1300, b"Saw", block[19]);
+    next = switch(out, next, 1620, b"Pulse", block[18]);
+    next = source(out, next, block[16]);
+    depth(out, next, block[25], block[16])
+}
+
+fn dials_at(out: &mut [u8], at: usize, block: &[u8], code: Code) -> usize
+    requires { ⌜ length (now block) ≡ blockLength ⌝ }
+    ensures { λ r. ⌜ Puts (now (out .entry)) at (dialsOf code (byteAt (now (block .entry)))) (now (out .exit)) r ⌝ }
+{
+    match code {
+        Code::VcaEnvelope => envelope_dials(out, at, block, 53),
+        Code::VcfEnvelope => envelope_dials(out, at, block, 62),
+        Code::ModEnvelope => envelope_dials(out, at, block, 71),
+        Code::LfoOne => lfo_dials(out, at, block, 2),
+        Code::LfoTwo => lfo_dials(out, at, block, 9),
+        Code::LfoOneUnipolar => lfo_dials(out, at, block, 2),
+        Code::LfoTwoUnipolar => lfo_dials(out, at, block, 9),
+        Code::FadeOne => put_dial(out, at, b"Fade time", block[1]),
+        Code::FadeTwo => put_dial(out, at, b"Fade time", block[8]),
+        Code::LowPass => low_pass_dials(out, at, block),
+        Code::HighPass => put(
+            out,
+            at,
+            b"<text class='d' y='1300'>6 dB an octave, fixed</text>",
+        ),
+        Code::OscillatorOne => oscillator_dials(out, at, block),
+        Code::OscillatorTwo => put_dial(out, at, b"Level", block[26]),
+        Code::Noise => put_dial(out, at, b"Level", block[33]),
+    }
+}
+
+// The lines of a code; a block of another length has none.
+pub fn put_dials(out: &mut [u8], at: usize, block: &[u8], code: Code) -> usize
+    ensures { λ r. ⌜ Puts (now (out .entry)) at (dialsText (now (block .entry)) code) (now (out .exit)) r ⌝ }
+{
+    if block.len() != BLOCK {
+        return at;
+    }
+    dials_at(out, at, block, code)
+}

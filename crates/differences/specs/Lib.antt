@@ -1,0 +1,3 @@
+-- What differs between two programs.
+pub mod Largest
+pub mod Differences

@@ -1,0 +1,81 @@
+// Prints a strip as text: the arguments are a generator's code and how many samples, and the block is on standard input. What is refused prints one line, `refused` and the refusal's number.
+ghost use mathlib.Core.Path.{_≡_};
+ghost use Prim.Native.Nat.{_≤_};
+ghost use lib.ListN.{length};
+use block::Refusal;
+use block::refusal_number;
+use libc::STDIN_FILENO;
+use libc::STDOUT_FILENO;
+use rows::Number;
+use rows::put_rows;
+use rows::read_number;
+use sheet::StripAnswer;
+
+// Room for one sample more than the longest strip has, and for the rows of that. The contracts give the lengths only, which lending them as slices asks for.
+fn samples() -> [f32; 4097]
+    ensures { λ r. ⌜ 4097 ≡ length r ⌝ }
+{
+    [0.0; 4097]
+}
+
+fn page() -> [u8; 180000]
+    ensures { λ r. ⌜ 180000 ≡ length r ⌝ }
+{
+    [0; 180000]
+}
+
+fn refuse(r: Refusal) {
+    io::write_all(STDOUT_FILENO, b"refused ");
+    io::print_decimal(STDOUT_FILENO, refusal_number(r) as u64);
+    io::write_all(STDOUT_FILENO, b"\n");
+}
+
+// Argument i as a number, and `most` where it is a larger one or none.
+fn argument(i: usize, most: u16) -> u16
+    ensures { λ r. ⌜ r ≤ most ⌝ }
+{
+    let mut text = [0u8; 16];
+    let n = os::arg(i, &mut text);
+    let read = read_number(&text[..n]);
+    match read {
+        Number::Value(value) => {
+            if value < most as u64 {
+                return value as u16;
+            }
+            most
+        }
+        Number::NotANumber => most,
+    }
+}
+
+fn print_first(text: &[u8], n: usize) {
+    if n < text.len() {
+        io::write_all(STDOUT_FILENO, &text[..n]);
+    }
+}
+
+fn print_rows(heights: &[f32]) {
+    let mut text = page();
+    let n = put_rows(&mut text, 0, heights);
+    print_first(&text, n);
+}
+
+// A strip of n samples, in the first n places of `heights`.
+fn print_strip(block: &[u8], code: u8, heights: &mut [f32], n: usize)
+    requires { ⌜ n ≤ length (now heights) ⌝ }
+{
+    let answer = sheet::strip(block, code, &mut heights[..n]);
+    match answer {
+        StripAnswer::Filled(_) => print_rows(&heights[..n]),
+        StripAnswer::Refused(r) => refuse(r),
+    }
+}
+
+fn main() {
+    let code = argument(1, 255) as u8;
+    let n = argument(2, 4097) as usize;
+    let mut block = [0u8; 243];
+    let got = io::read_full(STDIN_FILENO, &mut block);
+    let mut heights = samples();
+    print_strip(&block[..got], code, &mut heights, n);
+}

@@ -1,0 +1,148 @@
+-- `put_other_name` puts `otherName`. Assumes nothing.
+use mathlib.Core.Path.{refl}
+use borrow.Author.Tests.{ne-eqb}
+use Rattle.names.specs.Names.{otherName}
+use borrow.Author.Needs.{needs}
+use Rattle.names.proofs.put_other_name.Statement.{statement}
+use Rattle.names.proofs.put_other_name.Tie as tie
+
+slice-aggregate-put : tie.Need-slice-aggregate-put
+slice-aggregate-put c = refl
+
+put-requires : tie.Need-put-requires
+put-requires c κs = search needs
+
+same-length : tie.Need-same-length
+same-length c = search needs
+
+returns : tie.Need-returns
+unfolding otherName
+returns c = simp (c .before .before .before .before .before .if1 .taken) (c .before .before .put .ensures)
+
+slice-aggregate-put-2 : tie.Need-slice-aggregate-put-2
+slice-aggregate-put-2 c = refl
+
+put-requires-2 : tie.Need-put-requires-2
+put-requires-2 c κs = search needs
+
+same-length-2 : tie.Need-same-length-2
+same-length-2 c = search needs
+
+returns-2 : tie.Need-returns-2
+unfolding otherName
+returns-2 c = simp (ne-eqb _ _ (c .before .before .before .before .before .before .if1 .left), c .before .before .before .before .before .if2 .taken) (c .before .before .put2 .ensures)
+
+slice-aggregate-put-3 : tie.Need-slice-aggregate-put-3
+slice-aggregate-put-3 c = refl
+
+put-requires-3 : tie.Need-put-requires-3
+put-requires-3 c κs = search needs
+
+same-length-3 : tie.Need-same-length-3
+same-length-3 c = search needs
+
+returns-3 : tie.Need-returns-3
+unfolding otherName
+returns-3 c = simp (ne-eqb _ _ (c .before .before .before .before .before .before .before .if1 .left), ne-eqb _ _ (c .before .before .before .before .before .before .if2 .left), c .before .before .before .before .before .if3 .taken) (c .before .before .put3 .ensures)
+
+slice-aggregate-put-4 : tie.Need-slice-aggregate-put-4
+slice-aggregate-put-4 c = refl
+
+put-requires-4 : tie.Need-put-requires-4
+put-requires-4 c κs = search needs
+
+same-length-4 : tie.Need-same-length-4
+same-length-4 c = search needs
+
+returns-4 : tie.Need-returns-4
+unfolding otherName
+returns-4 c = simp (ne-eqb _ _ (c .before .before .before .before .before .before .before .before .if1 .left), ne-eqb _ _ (c .before .before .before .before .before .before .before .if2 .left), ne-eqb _ _ (c .before .before .before .before .before .before .if3 .left), c .before .before .before .before .before .if4 .taken) (c .before .before .put4 .ensures)
+
+slice-aggregate-put-5 : tie.Need-slice-aggregate-put-5
+slice-aggregate-put-5 c = refl
+
+put-requires-5 : tie.Need-put-requires-5
+put-requires-5 c κs = search needs
+
+same-length-5 : tie.Need-same-length-5
+same-length-5 c = search needs
+
+returns-5 : tie.Need-returns-5
+unfolding otherName
+returns-5 c = simp (ne-eqb _ _ (c .before .before .before .before .before .before .before .before .before .if1 .left), ne-eqb _ _ (c .before .before .before .before .before .before .before .before .if2 .left), ne-eqb _ _ (c .before .before .before .before .before .before .before .if3 .left), ne-eqb _ _ (c .before .before .before .before .before .before .if4 .left), c .before .before .before .before .before .if5 .taken) (c .before .before .put5 .ensures)
+
+slice-aggregate-put-6 : tie.Need-slice-aggregate-put-6
+slice-aggregate-put-6 c = refl
+
+put-requires-6 : tie.Need-put-requires-6
+put-requires-6 c κs = search needs
+
+same-length-6 : tie.Need-same-length-6
+same-length-6 c = search needs
+
+returns-6 : tie.Need-returns-6
+unfolding otherName
+returns-6 c = simp (ne-eqb _ _ (c .before .before .before .before .before .before .before .before .before .before .if1 .left), ne-eqb _ _ (c .before .before .before .before .before .before .before .before .before .if2 .left), ne-eqb _ _ (c .before .before .before .before .before .before .before .before .if3 .left), ne-eqb _ _ (c .before .before .before .before .before .before .before .if4 .left), ne-eqb _ _ (c .before .before .before .before .before .before .if5 .left), c .before .before .before .before .before .if6 .taken) (c .before .before .put6 .ensures)
+
+slice-aggregate-put-7 : tie.Need-slice-aggregate-put-7
+slice-aggregate-put-7 c = refl
+
+put-requires-7 : tie.Need-put-requires-7
+put-requires-7 c κs = search needs
+
+same-length-7 : tie.Need-same-length-7
+same-length-7 c = search needs
+
+returns-7 : tie.Need-returns-7
+unfolding otherName
+returns-7 c = simp (ne-eqb _ _ (c .before .before .before .before .before .before .before .before .before .before .before .if1 .left), ne-eqb _ _ (c .before .before .before .before .before .before .before .before .before .before .if2 .left), ne-eqb _ _ (c .before .before .before .before .before .before .before .before .before .if3 .left), ne-eqb _ _ (c .before .before .before .before .before .before .before .before .if4 .left), ne-eqb _ _ (c .before .before .before .before .before .before .before .if5 .left), ne-eqb _ _ (c .before .before .before .before .before .before .if6 .left), c .before .before .before .before .before .if7 .taken) (c .before .before .put7 .ensures)
+
+slice-aggregate-put-8 : tie.Need-slice-aggregate-put-8
+slice-aggregate-put-8 c = refl
+
+put-requires-8 : tie.Need-put-requires-8
+put-requires-8 c κs = search needs
+
+same-length-8 : tie.Need-same-length-8
+same-length-8 c = search needs
+
+returns-8 : tie.Need-returns-8
+unfolding otherName
+returns-8 c = simp (ne-eqb _ _ (c .before .before .before .before .before .before .before .before .before .before .before .if1 .left), ne-eqb _ _ (c .before .before .before .before .before .before .before .before .before .before .if2 .left), ne-eqb _ _ (c .before .before .before .before .before .before .before .before .before .if3 .left), ne-eqb _ _ (c .before .before .before .before .before .before .before .before .if4 .left), ne-eqb _ _ (c .before .before .before .before .before .before .before .if5 .left), ne-eqb _ _ (c .before .before .before .before .before .before .if6 .left), ne-eqb _ _ (c .before .before .before .before .before .if7 .left)) (c .before .before .put8 .ensures)
+
+pub put-other-name-spec : {M : Type 1} → statement M
+put-other-name-spec =
+    tie.close
+    (tie.spec
+    slice-aggregate-put
+    put-requires
+    same-length
+    returns
+    slice-aggregate-put-2
+    put-requires-2
+    same-length-2
+    returns-2
+    slice-aggregate-put-3
+    put-requires-3
+    same-length-3
+    returns-3
+    slice-aggregate-put-4
+    put-requires-4
+    same-length-4
+    returns-4
+    slice-aggregate-put-5
+    put-requires-5
+    same-length-5
+    returns-5
+    slice-aggregate-put-6
+    put-requires-6
+    same-length-6
+    returns-6
+    slice-aggregate-put-7
+    put-requires-7
+    same-length-7
+    returns-7
+    slice-aggregate-put-8
+    put-requires-8
+    same-length-8
+    returns-8)

@@ -1,0 +1,2 @@
+-- The names of generators and of their bytes.
+pub mod Names

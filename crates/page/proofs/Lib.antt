@@ -1,0 +1,2 @@
+-- Where the name ends.
+pub mod NameEnd

@@ -1,0 +1,42 @@
+-- `put_chosen` writes `chosenText` of what is chosen. Assumes nothing.
+use mathlib.Core.Path.{sym}
+use Rattle.text.proofs.Writing.{puts-none}
+use Rattle.page.specs.Panels.{chosenText}
+use borrow.Author.Needs.{needs}
+use Rattle.page.proofs.put_chosen.Statement.{statement}
+use Rattle.page.proofs.put_chosen.Tie as tie
+
+choose-requires : tie.Need-choose-requires
+choose-requires c κs = search needs
+
+enum-known-chosen : tie.Need-enum-known-chosen
+enum-known-chosen c = search needs
+
+put-drawn-requires : tie.Need-put-drawn-requires
+put-drawn-requires c κs = search needs
+
+enum-told : tie.Need-enum-told
+enum-told c = search needs
+
+same-length : tie.Need-same-length
+same-length c = search needs
+
+returns : tie.Need-returns
+unfolding chosenText
+returns c = simp (sym (c .before .before .before .before .before .before .before .choose .ensures), c .before .before .before .before .before .chosen .given .1) (c .before .before .put-drawn .ensures)
+
+returns-2 : tie.Need-returns-2
+unfolding chosenText
+returns-2 c = simp (sym (c .before .before .choose .ensures), c .enum-told .given .1) (puts-none _ _)
+
+pub put-chosen-spec : {M : Type 1} → statement M
+put-chosen-spec =
+    tie.close
+    (tie.spec
+    choose-requires
+    enum-known-chosen
+    put-drawn-requires
+    enum-told
+    same-length
+    returns
+    returns-2)

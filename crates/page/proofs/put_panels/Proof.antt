@@ -1,0 +1,55 @@
+-- `put_panels` writes the panels of the codes. The loop's invariant: the first k of them are written. Assumes nothing.
+use mathlib.Core.Path.{_≡_}
+use Prim.Native.Nat.{_-_, _≤_}
+use native.Mathlib.Numerals.{add-one}
+use native.Mathlib.Omega.{arith}
+use borrow.Author.Needs.{needs}
+use lib.ListN.{length}
+use Rattle.text.specs.Text.{Puts}
+use Rattle.text.proofs.Writing.{_⨾_, puts-none}
+use Rattle.page.specs.Panels.{panelsText}
+use Rattle.page.proofs.put_panels.Statement.{statement}
+use Rattle.page.proofs.put_panels.Tie as tie
+
+abbrev Inv-loop : tie.InvT-loop
+Inv-loop out₀ at older block next₀ k₀ out next k = (k ≤ 14) × (length out ≡ length out₀) × Puts out₀ at (panelsText older block k) out next
+
+abbrev μ-loop : tie.MeasureT-loop
+μ-loop out₀ at older block next₀ k₀ out next k = 14 - k
+
+loop-holds : tie.Need-loop-holds Inv-loop μ-loop
+unfolding panelsText
+loop-holds c = (search needs, search needs, puts-none _ _)
+
+put-panel-requires : tie.Need-put-panel-requires Inv-loop μ-loop
+put-panel-requires c κs = search needs
+
+add-k : tie.Need-add-k Inv-loop μ-loop
+add-k c = search needs
+
+loop-less : tie.Need-loop-less Inv-loop μ-loop
+loop-less c = search needs
+
+loop-again : tie.Need-loop-again Inv-loop μ-loop
+unfolding panelsText
+loop-again c = (search needs, search needs, rw add-one (c .before .before .before .before .before .loop .inv .2 ⨾ c .before .before .put-panel .ensures))
+
+same-length : tie.Need-same-length Inv-loop μ-loop
+same-length c = search needs
+
+returns : tie.Need-returns Inv-loop μ-loop
+returns c = let e : c .before .loop .k ≡ 14 = omega arith in rw e at (c .before .loop .inv .2)
+
+pub put-panels-spec : {M : Type 1} → statement M
+put-panels-spec =
+    tie.close
+    (tie.spec
+    Inv-loop
+    μ-loop
+    loop-holds
+    put-panel-requires
+    add-k
+    loop-less
+    loop-again
+    same-length
+    returns)

@@ -1,0 +1,234 @@
+// A program's sheet as one page of SVG, A4 landscape: the name, a panel for each generator, the arpeggio's gates.
+ghost use mathlib.Core.Path.{_≡_};
+ghost use Prim.Native.Nat.{_<_, _≤_};
+ghost use lib.ListN.{length};
+ghost use Rattle.text.specs.Text.{Puts};
+ghost use Rattle.block.specs.Codes.{codeOf, blockLength};
+ghost use Rattle.block.specs.Refusals.{chosenOf};
+ghost use Rattle.strip.specs.Strip.{stripOf};
+ghost use Rattle.panel.specs.Pieces.{titleText, beneathText};
+ghost use Rattle.names.specs.Names.{titleOf};
+ghost use Rattle.page.specs.Panels.{placeText, panelEnd, blank, drawnText, chosenText, olderText, codeText, panelText, panelsText, arpeggioText};
+ghost use Rattle.page.specs.Page.{nameEnd, nameOf, styleText, headText, footText, pageOf, pageText};
+use block::BLOCK;
+use block::Chosen;
+use block::Code;
+use block::CodeRead;
+use block::choose;
+use block::code_from;
+use generator::Generator;
+use panel::SAMPLES;
+use panel::put_frame;
+use panel::put_title;
+use text::put;
+use text::put_decimal;
+
+// The bytes of the name, with its terminator, and the byte of the gates.
+const NAME: usize = 223;
+
+const NAME_END: usize = 240;
+
+const GATES: usize = 160;
+
+// The codes' panels.
+const PANELS: u8 = 14;
+
+// ---- a panel
+fn put_name(out: &mut [u8], at: usize, code: Code) -> usize
+    ensures { λ r. ⌜ Puts (now (out .entry)) at (titleText (titleOf code)) (now (out .exit)) r ⌝ }
+{
+    let mut next = put(out, at, b"<text class='t' y='-2930'>");
+    next = names::put_title(out, next, code);
+    put(out, next, b"</text>")
+}
+
+fn put_place(out: &mut [u8], at: usize, k: u8) -> usize
+    requires { ⌜ k < 15 ⌝ }
+    ensures { λ r. ⌜ Puts (now (out .entry)) at (placeText k) (now (out .exit)) r ⌝ }
+{
+    let mut next = put(out, at, b"<g transform='translate(");
+    next = put_decimal(out, next, 1150 + 5600 * (k % 5) as u64);
+    next = put(out, next, b" ");
+    next = put_decimal(out, next, 5400 + 6050 * (k / 5) as u64);
+    put(out, next, b")'>")
+}
+
+fn put_end(out: &mut [u8], at: usize) -> usize
+    ensures { λ r. ⌜ Puts (now (out .entry)) at panelEnd (now (out .exit)) r ⌝ }
+{
+    put(out, at, b"</g>\n")
+}
+
+fn put_drawn(out: &mut [u8], at: usize, g: Generator) -> usize
+    ensures { λ r. ⌜ Puts (now (out .entry)) at (drawnText g) (now (out .exit)) r ⌝ }
+{
+    let mut heights = [0.0f32; SAMPLES];
+    strip::fill(g, &mut heights);
+    let mut next = panel::put_subtitle(out, at, g.scale(), g.anchored());
+    next = panel::put_rest(out, next, g.rest());
+    next = panel::put_marks(out, next, g.marks());
+    panel::put_curve(out, next, &heights)
+}
+
+fn put_chosen(out: &mut [u8], at: usize, block: &[u8], k: u8) -> usize
+    ensures { λ r. ⌜ Puts (now (out .entry)) at (chosenText (chosenOf (now (block .entry)) k)) (now (out .exit)) r ⌝ }
+{
+    let chosen = choose(block, k);
+    match chosen {
+        Chosen::Generator(g) => put_drawn(out, at, g),
+        Chosen::Refused(_) => at,
+    }
+}
+
+// The curve of an older program's generator.
+fn put_beneath(out: &mut [u8], at: usize, g: Generator) -> usize
+    ensures { λ r. ⌜ Puts (now (out .entry)) at (beneathText (stripOf (g .shape) blank)) (now (out .exit)) r ⌝ }
+{
+    let mut heights = [0.0f32; SAMPLES];
+    strip::fill(g, &mut heights);
+    panel::put_beneath(out, at, &heights)
+}
+
+fn put_older(out: &mut [u8], at: usize, older: &[u8], k: u8) -> usize
+    ensures { λ r. ⌜ Puts (now (out .entry)) at (olderText (chosenOf (now (older .entry)) k)) (now (out .exit)) r ⌝ }
+{
+    let chosen = choose(older, k);
+    match chosen {
+        Chosen::Generator(g) => put_beneath(out, at, g),
+        Chosen::Refused(_) => at,
+    }
+}
+
+fn put_known(out: &mut [u8], at: usize, block: &[u8], code: Code) -> usize
+    ensures { λ r. ⌜ Puts (now (out .entry)) at (codeText (now (block .entry)) (CodeRead.Known code)) (now (out .exit)) r ⌝ }
+{
+    let mut next = put_name(out, at, code);
+    next = put_frame(out, next);
+    dials::put_dials(out, next, block, code)
+}
+
+fn put_code(out: &mut [u8], at: usize, block: &[u8], k: u8) -> usize
+    ensures { λ r. ⌜ Puts (now (out .entry)) at (codeText (now (block .entry)) (codeOf k)) (now (out .exit)) r ⌝ }
+{
+    let read = code_from(k);
+    match read {
+        CodeRead::Known(c) => put_known(out, at, block, c),
+        CodeRead::Above => at,
+    }
+}
+
+fn put_panel(out: &mut [u8], at: usize, older: &[u8], block: &[u8], k: u8) -> usize
+    requires { ⌜ k < 15 ⌝ }
+    ensures { λ r. ⌜ Puts (now (out .entry)) at (panelText (now (older .entry)) (now (block .entry)) k) (now (out .exit)) r ⌝ }
+{
+    let mut next = put_place(out, at, k);
+    next = put_older(out, next, older, k);
+    next = put_chosen(out, next, block, k);
+    next = put_code(out, next, block, k);
+    put_end(out, next)
+}
+
+fn put_panels(out: &mut [u8], at: usize, older: &[u8], block: &[u8]) -> usize
+    ensures { λ r. ⌜ Puts (now (out .entry)) at (panelsText (now (older .entry)) (now (block .entry)) 14) (now (out .exit)) r ⌝ }
+{
+    let mut next = at;
+    let mut k: u8 = 0;
+    while k < PANELS {
+        next = put_panel(out, next, older, block, k);
+        k += 1;
+    }
+    next
+}
+
+fn put_arpeggio(out: &mut [u8], at: usize, time: u8) -> usize
+    ensures { λ r. ⌜ Puts (now (out .entry)) at (arpeggioText time) (now (out .exit)) r ⌝ }
+{
+    let bars = bars::bars(generator::arpeggiator_gates(time));
+    let mut next = put_place(out, at, 14);
+    next = put_title(out, next, b"Arpeggio gate");
+    next = put(
+        out,
+        next,
+        b"<text y='-2600'>4 steps, left edge fixed</text>",
+    );
+    next = panel::put_bars(out, next, bars);
+    next = panel::put_steps(out, next);
+    next = put_frame(out, next);
+    next = dials::put_dial(out, next, b"Gate time", time);
+    put_end(out, next)
+}
+
+// ---- head and foot
+// Where the name ends: at its first 0, or after its last byte.
+fn name_end(block: &[u8]) -> usize
+    requires { ⌜ length (now block) ≡ blockLength ⌝ }
+    ensures { λ r. ⌜ (r ≡ nameEnd (now (block .entry))) × (223 ≤ r) × (r ≤ 240) ⌝ }
+{
+    let mut i: usize = NAME;
+    while i < NAME_END {
+        if block[i] == 0 {
+            return i;
+        }
+        i += 1;
+    }
+    i
+}
+
+fn put_style(out: &mut [u8], at: usize) -> usize
+    ensures { λ r. ⌜ Puts (now (out .entry)) at styleText (now (out .exit)) r ⌝ }
+{
+    put(
+        out,
+        at,
+        b"<svg xmlns='http://www.w3.org/2000/svg' width='297mm' height='210mm' viewBox='0 0 29700 21000'>\n<style>text{font:260px Helvetica,Arial,sans-serif}.h{font-size:360px}.n{font-size:560px;font-weight:bold}.t{font-size:360px;font-weight:bold}.d{font-size:280px}.b{font-weight:bold}.m{font-size:240px;text-anchor:middle}path,polyline{fill:none;stroke:#000}.f{stroke-width:15}.r{stroke-width:12;stroke-dasharray:80 60}.v{stroke-width:8}.c{stroke-width:32;stroke-linejoin:round}.u{stroke:#999;stroke-width:70;stroke-linejoin:round}.g{fill:#bbb;stroke-width:20}</style>\n<rect width='29700' height='21000' fill='#fff'/>\n",
+    )
+}
+
+fn put_head(out: &mut [u8], at: usize, name: &[u8]) -> usize
+    ensures { λ r. ⌜ Puts (now (out .entry)) at (headText (now (name .entry))) (now (out .exit)) r ⌝ }
+{
+    let mut next = put(
+        out,
+        at,
+        b"<text class='h' x='1150' y='1450'>DeepMind 12 program</text><text class='n' x='5500' y='1450'>",
+    );
+    next = text::put_escaped_all(out, next, name);
+    put(
+        out,
+        next,
+        b"</text><path class='f' d='M1150 1750H28550'/>\n",
+    )
+}
+
+fn put_foot(out: &mut [u8], at: usize) -> usize
+    ensures { λ r. ⌜ Puts (now (out .entry)) at footText (now (out .exit)) r ⌝ }
+{
+    put(
+        out,
+        at,
+        b"<text x='1150' y='20550'>Bold: the bytes to dial in, 0 to 255. A, D, S, R: where attack, decay, sustain and release start. Dashed: the rest level. Left edge free: a cycle that runs on, drawn from its start. A frame is 50 mm by 25 mm.</text>\n</svg>\n",
+    )
+}
+
+// ---- the whole
+fn put_page(out: &mut [u8], older: &[u8], block: &[u8]) -> usize
+    requires { ⌜ length (now block) ≡ blockLength ⌝ }
+    ensures { λ r. ⌜ Puts (now (out .entry)) 0 (pageOf (now (older .entry)) (now (block .entry))) (now (out .exit)) r ⌝ }
+{
+    let end = name_end(block);
+    let mut next = put_style(out, 0);
+    next = put_head(out, next, &block[NAME..end]);
+    next = put_panels(out, next, older, block);
+    next = put_arpeggio(out, next, block[GATES]);
+    put_foot(out, next)
+}
+
+// Writes a block's page from the buffer's start on, and answers where it ends. Where `older` is a block too, its curves lie beneath. A block of another length writes nothing.
+pub fn page(older: &[u8], block: &[u8], out: &mut [u8]) -> usize
+    ensures { λ r. ⌜ Puts (now (out .entry)) 0 (pageText (now (older .entry)) (now (block .entry))) (now (out .exit)) r ⌝ }
+{
+    if block.len() != BLOCK {
+        return 0;
+    }
+    put_page(out, older, block)
+}

@@ -1,0 +1,29 @@
+-- `put_mark` writes `markText`. Assumes nothing.
+use Rattle.text.proofs.Writing.{_⨾_}
+use Rattle.panel.specs.Pieces.{markText}
+use borrow.Author.Needs.{needs}
+use Rattle.panel.proofs.put_mark.Statement.{statement}
+use Rattle.panel.proofs.put_mark.Tie as tie
+
+nearest-requires : tie.Need-nearest-requires
+nearest-requires c κs = search needs
+
+put-rule-requires : tie.Need-put-rule-requires
+put-rule-requires c κs = search needs
+
+put-label-requires : tie.Need-put-label-requires
+put-label-requires c κs = search needs
+
+same-length : tie.Need-same-length
+same-length c = search needs
+
+returns : tie.Need-returns
+unfolding markText
+returns c =
+    rw (c .before .before .before .before .before .before .before .before .nearest .ensures .0) at
+    (c .before .before .before .before .before .before .put-rule .ensures ⨾
+    c .before .before .put-label .ensures)
+
+pub put-mark-spec : {M : Type 1} → statement M
+put-mark-spec =
+    tie.close (tie.spec nearest-requires put-rule-requires put-label-requires same-length returns)

@@ -1,0 +1,3 @@
+-- The pieces of a panel.
+pub mod Labels
+pub mod Pieces

@@ -1,0 +1,106 @@
+-- THE PIECES OF A PANEL: docs/SPECIFICATION.md, "The page". The origin is the lower left corner of the frame, a unit is 1/100 mm, and y grows downward: a frame is 50 mm wide and 25 mm high,
+-- and a height h is at -2500 h. Definitions only.
+use mathlib.Core.List.{List, [], _++_}
+use Prim.Native.Nat.{ℕ, zero, suc, _+_, _*_, min}
+use lib.ListN.{length, getD}
+use lib.Ieee.{Float, nan}
+use Rattle.exact.specs.Binary32.{_⊘_, bits}
+use Rattle.text.specs.Text.{ascii}
+use Rattle.text.specs.Spelled.{decimalOf}
+use Rattle.scaled.specs.Scaled.{nearestOf}
+use Rattle.generator.specs.declared.Segment.the-variants.{Attack}
+use Rattle.generator.specs.declared.MarkKind.{MarkKind}
+use Rattle.generator.specs.declared.MarkKind.the-variants.{Segment as ASegment}
+use Rattle.generator.specs.declared.Mark.{Mark}
+use Rattle.generator.specs.declared.Marks.{Marks}
+use Rattle.generator.specs.declared.Gate.{Gate}
+use Rattle.generator.specs.declared.Gates.{Gates}
+use Rattle.panel.specs.Labels.{kindText, rowOf}
+
+-- A position across the frame, and a height in it, in hundredths of a millimetre.
+abbrev pub acrossOf : Float → ℕ
+acrossOf x = nearestOf x 5000
+
+abbrev pub heightOf : Float → ℕ
+heightOf h = nearestOf h 2500
+
+abbrev pub frameText : List ℕ
+frameText = ascii "<path class='f' d='M0-2500H5000V0H0Z'/>"
+
+unfoldable pub titleText : List ℕ → List ℕ
+titleText title = ascii "<text class='t' y='-2930'>" ++ title ++ ascii "</text>"
+
+-- The level where the shape does nothing, dashed.
+unfoldable pub restText : Float → List ℕ
+restText r = ascii "<path class='r' d='M0-" ++ decimalOf (heightOf r) ++ ascii "H5000'/>"
+
+-- ---- the curve
+-- Sample i: 0.1 mm to the right of the one before it.
+unfoldable pub pointText : ℕ → Float → List ℕ
+pointText i h = decimalOf (10 * i) ++ ascii ",-" ++ decimalOf (heightOf h) ++ ascii " "
+
+-- The first k samples.
+unfoldable pub pointsText : List Float → ℕ → List ℕ
+pointsText hs zero = []
+pointsText hs (suc k) = pointsText hs k ++ pointText k (getD hs k nan)
+
+-- A line through the samples, after its start; at most 501 fit between the frame's edges.
+unfoldable pub lineText : List ℕ → List Float → List ℕ
+lineText start hs = start ++ pointsText hs (min (length hs) 501) ++ ascii "'/>"
+
+-- The curve; and one that lies beneath it, in grey.
+abbrev pub curveText : List Float → List ℕ
+curveText hs = lineText (ascii "<polyline class='c' points='") hs
+
+abbrev pub beneathText : List Float → List ℕ
+beneathText hs = lineText (ascii "<polyline class='u' points='") hs
+
+-- ---- the marks
+-- A rule through the frame, down to its row.
+unfoldable pub ruleText : ℕ → ℕ → List ℕ
+ruleText row across = ascii "<path class='v' d='M" ++ decimalOf across ++ ascii "-2500V" ++ decimalOf (40 + 230 * row) ++ ascii "'/>"
+
+-- What is at it.
+unfoldable pub labelText : ℕ → ℕ → MarkKind → List ℕ
+labelText row across kind = ascii "<text x='" ++ decimalOf across ++ ascii "' y='" ++ decimalOf (220 + 230 * row) ++ ascii "'" ++ kindText kind
+
+-- A mark past an edge is drawn at the edge.
+unfoldable pub markText : ℕ → Mark → List ℕ
+markText row m = ruleText row (acrossOf (m .at)) ++ labelText row (acrossOf (m .at)) (m .kind)
+
+-- Mark number k; past the places, which no use reaches, an attack at a NaN.
+abbrev pub markAt : List Mark → ℕ → Mark
+markAt places k = getD places k (record { at = nan; kind = ASegment Attack })
+
+-- The first k marks.
+unfoldable pub rulesText : List Mark → ℕ → List ℕ
+rulesText places zero = []
+rulesText places (suc k) = rulesText places k ++ markText (rowOf k (markAt places k .kind)) (markAt places k)
+
+-- All that are used; a record has six places.
+unfoldable pub marksText : Marks → List ℕ
+marksText m = rulesText (m .places) (min (m .count) 6)
+
+-- ---- the bars of the arpeggio, of four steps
+-- A bar from one step's place to another's: a step is a quarter of the frame.
+unfoldable pub barText : Gate → List ℕ
+barText g =
+    ascii "<path class='g' d='M" ++ decimalOf (acrossOf (g .start ⊘ bits 0x4080_0000)) ++ ascii " 0V-1500H" ++ decimalOf (acrossOf (g .end ⊘ bits 0x4080_0000)) ++ ascii "V0Z'/>"
+
+-- Bar number k; past the places, which no use reaches, a bar of NaNs.
+abbrev pub barAt : List Gate → ℕ → Gate
+barAt places k = getD places k (record { start = nan; end = nan })
+
+-- The first k bars.
+unfoldable pub someBars : List Gate → ℕ → List ℕ
+someBars places zero = []
+someBars places (suc k) = someBars places k ++ barText (barAt places k)
+
+-- All that are used; a record has four places.
+unfoldable pub barsText : Gates → List ℕ
+barsText g = someBars (g .places) (min (g .count) 4)
+
+-- Where each step ends, and the steps' numbers.
+abbrev pub stepsText : List ℕ
+stepsText =
+    ascii "<path class='v' d='M1250-2500V0M2500-2500V0M3750-2500V0'/><text class='m' x='625' y='220'>1</text><text class='m' x='1875' y='220'>2</text><text class='m' x='3125' y='220'>3</text><text class='m' x='4375' y='220'>4</text>"

@@ -1,0 +1,24 @@
+-- `put_rows` puts `rowsText`: nothing where there are too many samples. Assumes nothing.
+use borrow.Author.Tests.{le-leb, lt-leb}
+use Rattle.text.proofs.Writing.{puts-none}
+use Rattle.rows.specs.Rows.{rowsText}
+use borrow.Author.Needs.{needs}
+use Rattle.rows.proofs.put_rows.Statement.{statement}
+use Rattle.rows.proofs.put_rows.Tie as tie
+
+put-samples-requires : tie.Need-put-samples-requires
+put-samples-requires c κs = search needs
+
+same-length : tie.Need-same-length
+same-length c = search needs
+
+returns : tie.Need-returns
+unfolding rowsText
+returns c = simp (le-leb _ _ (c .before .before .before .before .if1 .taken)) (c .before .before .put-samples .ensures)
+
+returns-2 : tie.Need-returns-2
+unfolding rowsText
+returns-2 c = simp (lt-leb _ _ (c .if1 .left)) (puts-none _ _)
+
+pub put-rows-spec : {M : Type 1} → statement M
+put-rows-spec = tie.close (tie.spec put-samples-requires same-length returns returns-2)

@@ -1,0 +1,51 @@
+-- `put_samples` puts a row for each sample. The loop's invariant: those of the first i are written. Assumes nothing.
+use mathlib.Core.Path.{_≡_}
+use Prim.Native.Nat.{_-_, _≤_}
+use lib.ListN.{length}
+use Rattle.text.specs.Text.{Puts}
+use Rattle.rows.specs.Rows.{someRows}
+use Rattle.rows.proofs.Rows.{no-row, row-more, all-rows}
+use borrow.Author.Needs.{needs}
+use Rattle.rows.proofs.put_samples.Statement.{statement}
+use Rattle.rows.proofs.put_samples.Tie as tie
+
+abbrev Inv-loop : tie.InvT-loop
+Inv-loop out₀ at heights next₀ i₀ out next i = (i ≤ length heights) × (length out ≡ length out₀) × Puts out₀ at (someRows heights i) out next
+
+abbrev μ-loop : tie.MeasureT-loop
+μ-loop out₀ at heights next₀ i₀ out next i = length heights - i
+
+loop-holds : tie.Need-loop-holds Inv-loop μ-loop
+loop-holds c = (search needs, search needs, no-row _)
+
+put-sample-requires : tie.Need-put-sample-requires Inv-loop μ-loop
+put-sample-requires c κs = search needs
+
+add-i : tie.Need-add-i Inv-loop μ-loop
+add-i c = search needs
+
+loop-less : tie.Need-loop-less Inv-loop μ-loop
+loop-less c = search needs
+
+loop-again : tie.Need-loop-again Inv-loop μ-loop
+loop-again c = (search needs, search needs, row-more _ _ (c .before .before .before .before .before .loop .inv .2) (c .before .before .put-sample .ensures))
+
+same-length : tie.Need-same-length Inv-loop μ-loop
+same-length c = search needs
+
+returns : tie.Need-returns Inv-loop μ-loop
+returns c = all-rows _ _ _ (c .before .loop .inv .0) (c .loop-test .left) (c .before .loop .inv .2)
+
+pub put-samples-spec : {M : Type 1} → statement M
+put-samples-spec =
+    tie.close
+    (tie.spec
+    Inv-loop
+    μ-loop
+    loop-holds
+    put-sample-requires
+    add-i
+    loop-less
+    loop-again
+    same-length
+    returns)

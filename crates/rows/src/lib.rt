@@ -1,0 +1,116 @@
+// A strip as text, a row for each sample, and a number read from its digits.
+ghost use mathlib.Core.Path.{_≡_};
+ghost use Prim.Native.Nat.{_<_, _≤_};
+ghost use lib.ListN.{length};
+ghost use Rattle.text.specs.Text.{Puts};
+ghost use Rattle.rows.specs.Rows.{ninePlaces, decimalsText, rowText, sampleText, someRows, rowsText};
+ghost use Rattle.rows.specs.Reading.{readOf};
+use scaled::nearest;
+use strip::sample_position;
+use text::put;
+use text::put_fixed;
+use text::put_hex;
+use words::word_of;
+
+// The most samples whose numbers fit 16 bits.
+const MAX_ROWS: usize = 65536;
+
+// A row has nine places of each number.
+const BILLION: u32 = 1_000_000_000;
+
+// What digits stand for.
+pub enum Number {
+    Value(u64),
+    NotANumber,
+}
+
+// The most digits that are read.
+const MAX_DIGITS: usize = 9;
+
+// ---- rows
+// A number from 0 to 1 in nine places.
+pub fn put_nine_places(out: &mut [u8], at: usize, x: f32) -> usize
+    ensures { λ r. ⌜ Puts (now (out .entry)) at (ninePlaces x) (now (out .exit)) r ⌝ }
+{
+    put_fixed(out, at, nearest(x, BILLION), 9)
+}
+
+// Two of them, a space after each.
+fn put_decimals(out: &mut [u8], at: usize, x: f32, y: f32) -> usize
+    ensures { λ r. ⌜ Puts (now (out .entry)) at (decimalsText x y) (now (out .exit)) r ⌝ }
+{
+    let mut next = put_nine_places(out, at, x);
+    next = put(out, next, b" ");
+    next = put_nine_places(out, next, y);
+    put(out, next, b" ")
+}
+
+// A sample's position and its height, in decimal and as bits.
+pub fn put_row(out: &mut [u8], at: usize, position: f32, height: f32) -> usize
+    ensures { λ r. ⌜ Puts (now (out .entry)) at (rowText position height) (now (out .exit)) r ⌝ }
+{
+    let mut next = put_decimals(out, at, position, height);
+    next = put_hex(out, next, word_of(position));
+    next = put(out, next, b" ");
+    next = put_hex(out, next, word_of(height));
+    put(out, next, b"\n")
+}
+
+// The row of sample i.
+fn put_sample(out: &mut [u8], at: usize, heights: &[f32], i: usize) -> usize
+    requires { ⌜ (i < length (now heights)) × (length (now heights) ≤ 65536) ⌝ }
+    ensures { λ r. ⌜ Puts (now (out .entry)) at (sampleText (now (heights .entry)) i) (now (out .exit)) r ⌝ }
+{
+    let last = (heights.len() - 1) as u16;
+    put_row(out, at, sample_position(i as u16, last), heights[i])
+}
+
+fn put_samples(out: &mut [u8], at: usize, heights: &[f32]) -> usize
+    requires { ⌜ length (now heights) ≤ 65536 ⌝ }
+    ensures { λ r. ⌜ Puts (now (out .entry)) at (someRows (now (heights .entry)) (length (now (heights .entry)))) (now (out .exit)) r ⌝ }
+{
+    let mut next = at;
+    let mut i: usize = 0;
+    while i < heights.len() {
+        next = put_sample(out, next, heights, i);
+        i += 1;
+    }
+    next
+}
+
+// A row for each sample; of more samples than 65,536 nothing is written.
+pub fn put_rows(out: &mut [u8], at: usize, heights: &[f32]) -> usize
+    ensures { λ r. ⌜ Puts (now (out .entry)) at (rowsText (now (heights .entry))) (now (out .exit)) r ⌝ }
+{
+    if heights.len() <= MAX_ROWS {
+        return put_samples(out, at, heights);
+    }
+    at
+}
+
+// ---- a number
+// The number of up to nine decimal digits.
+pub fn read_number(text: &[u8]) -> Number
+    ensures { λ r. ⌜ r ≡ readOf (now (text .entry)) ⌝ }
+{
+    if text.len() == 0 {
+        return Number::NotANumber;
+    }
+    if MAX_DIGITS < text.len() {
+        return Number::NotANumber;
+    }
+    let mut value: u64 = 0;
+    let mut i: usize = 0;
+    while i < text.len() {
+        let c = text[i];
+        if c < 48 {
+            return Number::NotANumber;
+        }
+        if 57 < c {
+            return Number::NotANumber;
+        }
+        value = value * 10 + (c - 48) as u64;
+        i += 1;
+    }
+    Number::Value(value)
+}

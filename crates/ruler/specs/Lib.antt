@@ -1,0 +1,2 @@
+-- A height between two marks of a ruler.
+pub mod Ruler
