@@ -1,7 +1,9 @@
 // Replays a list of the reference's answers, which it reads from standard input: computes each again, and prints the list with the words that it
-// computed, beside each that differs the word expected, and how many it compared. compare/generator/list.rs says what the list's lines mean.
+// computed, beside each that differs the word expected, and how many it compared. compare/generator/list.rs says what the list's lines mean. Before it,
+// the numbers of what is refused and of what is not.
 mod answer;
 mod build;
+mod refusals;
 mod replay;
 mod report;
 
@@ -24,5 +26,6 @@ fn main() {
         io::write_all(STDOUT_FILENO, b"the list is too long\n");
         return;
     }
+    refusals::print_refusals();
     report::print_tally(replay::replay(&text[..n]));
 }

@@ -22,7 +22,7 @@ pub fn print_unanswered(expected: u32) {
     print_expected(expected);
 }
 
-fn print_count(label: &[u8], n: u32) {
+pub fn print_count(label: &[u8], n: u32) {
     io::write_all(STDOUT_FILENO, label);
     io::print_decimal(STDOUT_FILENO, n as u64);
     io::write_all(STDOUT_FILENO, b"\n");
