@@ -6,7 +6,7 @@ use Rattle.names.proofs.put_name.Statement.{statement}
 use Rattle.names.proofs.put_name.Tie as tie
 
 put-lfo-name-requires : tie.Need-put-lfo-name-requires
-put-lfo-name-requires c κs = search needs
+put-lfo-name-requires c κs = tt
 
 same-length : tie.Need-same-length
 same-length c = search needs
@@ -16,7 +16,7 @@ unfolding nameOf
 returns c = simp (lt-ltb _ _ (c .before .before .before .before .if1 .taken)) (c .before .before .put-lfo-name .ensures)
 
 put-other-name-requires : tie.Need-put-other-name-requires
-put-other-name-requires c κs = search needs
+put-other-name-requires c κs = tt
 
 same-length-2 : tie.Need-same-length-2
 same-length-2 c = search needs
@@ -26,7 +26,7 @@ unfolding nameOf
 returns-2 c = simp (le-ltb _ _ (c .before .before .before .before .before .if1 .left), lt-ltb _ _ (c .before .before .before .before .if2 .taken)) (c .before .before .put-other-name .ensures)
 
 put-envelope-name-requires : tie.Need-put-envelope-name-requires
-put-envelope-name-requires c κs = search needs
+put-envelope-name-requires c κs = tt
 
 same-length-3 : tie.Need-same-length-3
 same-length-3 c = search needs
@@ -36,7 +36,7 @@ unfolding nameOf
 returns-3 c = simp (le-ltb _ _ (c .before .before .before .before .before .before .if1 .left), le-ltb _ _ (c .before .before .before .before .before .if2 .left), lt-ltb _ _ (c .before .before .before .before .if3 .taken)) (c .before .before .put-envelope-name .ensures)
 
 put-other-name-requires-2 : tie.Need-put-other-name-requires-2
-put-other-name-requires-2 c κs = search needs
+put-other-name-requires-2 c κs = tt
 
 same-length-4 : tie.Need-same-length-4
 same-length-4 c = search needs

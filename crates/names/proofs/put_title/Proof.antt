@@ -12,7 +12,7 @@ slice-aggregate-put : tie.Need-slice-aggregate-put
 slice-aggregate-put c = refl
 
 put-requires : tie.Need-put-requires
-put-requires c κs = search needs
+put-requires c κs = tt
 
 enum-told-2 : tie.Need-enum-told-2
 enum-told-2 c = search needs
@@ -21,7 +21,7 @@ slice-aggregate-put-2 : tie.Need-slice-aggregate-put-2
 slice-aggregate-put-2 c = refl
 
 put-requires-2 : tie.Need-put-requires-2
-put-requires-2 c κs = search needs
+put-requires-2 c κs = tt
 
 enum-told-3 : tie.Need-enum-told-3
 enum-told-3 c = search needs
@@ -30,7 +30,7 @@ slice-aggregate-put-3 : tie.Need-slice-aggregate-put-3
 slice-aggregate-put-3 c = refl
 
 put-requires-3 : tie.Need-put-requires-3
-put-requires-3 c κs = search needs
+put-requires-3 c κs = tt
 
 enum-told-4 : tie.Need-enum-told-4
 enum-told-4 c = search needs
@@ -39,7 +39,7 @@ slice-aggregate-put-4 : tie.Need-slice-aggregate-put-4
 slice-aggregate-put-4 c = refl
 
 put-requires-4 : tie.Need-put-requires-4
-put-requires-4 c κs = search needs
+put-requires-4 c κs = tt
 
 enum-told-5 : tie.Need-enum-told-5
 enum-told-5 c = search needs
@@ -48,7 +48,7 @@ slice-aggregate-put-5 : tie.Need-slice-aggregate-put-5
 slice-aggregate-put-5 c = refl
 
 put-requires-5 : tie.Need-put-requires-5
-put-requires-5 c κs = search needs
+put-requires-5 c κs = tt
 
 enum-told-6 : tie.Need-enum-told-6
 enum-told-6 c = search needs
@@ -57,7 +57,7 @@ slice-aggregate-put-6 : tie.Need-slice-aggregate-put-6
 slice-aggregate-put-6 c = refl
 
 put-requires-6 : tie.Need-put-requires-6
-put-requires-6 c κs = search needs
+put-requires-6 c κs = tt
 
 enum-told-7 : tie.Need-enum-told-7
 enum-told-7 c = search needs
@@ -66,7 +66,7 @@ slice-aggregate-put-7 : tie.Need-slice-aggregate-put-7
 slice-aggregate-put-7 c = refl
 
 put-requires-7 : tie.Need-put-requires-7
-put-requires-7 c κs = search needs
+put-requires-7 c κs = tt
 
 enum-told-8 : tie.Need-enum-told-8
 enum-told-8 c = search needs
@@ -75,7 +75,7 @@ slice-aggregate-put-8 : tie.Need-slice-aggregate-put-8
 slice-aggregate-put-8 c = refl
 
 put-requires-8 : tie.Need-put-requires-8
-put-requires-8 c κs = search needs
+put-requires-8 c κs = tt
 
 enum-told-9 : tie.Need-enum-told-9
 enum-told-9 c = search needs
@@ -84,7 +84,7 @@ slice-aggregate-put-9 : tie.Need-slice-aggregate-put-9
 slice-aggregate-put-9 c = refl
 
 put-requires-9 : tie.Need-put-requires-9
-put-requires-9 c κs = search needs
+put-requires-9 c κs = tt
 
 enum-told-10 : tie.Need-enum-told-10
 enum-told-10 c = search needs
@@ -93,7 +93,7 @@ slice-aggregate-put-10 : tie.Need-slice-aggregate-put-10
 slice-aggregate-put-10 c = refl
 
 put-requires-10 : tie.Need-put-requires-10
-put-requires-10 c κs = search needs
+put-requires-10 c κs = tt
 
 enum-told-11 : tie.Need-enum-told-11
 enum-told-11 c = search needs
@@ -102,7 +102,7 @@ slice-aggregate-put-11 : tie.Need-slice-aggregate-put-11
 slice-aggregate-put-11 c = refl
 
 put-requires-11 : tie.Need-put-requires-11
-put-requires-11 c κs = search needs
+put-requires-11 c κs = tt
 
 enum-told-12 : tie.Need-enum-told-12
 enum-told-12 c = search needs
@@ -111,7 +111,7 @@ slice-aggregate-put-12 : tie.Need-slice-aggregate-put-12
 slice-aggregate-put-12 c = refl
 
 put-requires-12 : tie.Need-put-requires-12
-put-requires-12 c κs = search needs
+put-requires-12 c κs = tt
 
 enum-told-13 : tie.Need-enum-told-13
 enum-told-13 c = search needs
@@ -120,7 +120,7 @@ slice-aggregate-put-13 : tie.Need-slice-aggregate-put-13
 slice-aggregate-put-13 c = refl
 
 put-requires-13 : tie.Need-put-requires-13
-put-requires-13 c κs = search needs
+put-requires-13 c κs = tt
 
 enum-told-14 : tie.Need-enum-told-14
 enum-told-14 c = search needs
@@ -129,7 +129,7 @@ slice-aggregate-put-14 : tie.Need-slice-aggregate-put-14
 slice-aggregate-put-14 c = refl
 
 put-requires-14 : tie.Need-put-requires-14
-put-requires-14 c κs = search needs
+put-requires-14 c κs = tt
 
 same-length : tie.Need-same-length
 same-length c = search needs
