@@ -34,7 +34,7 @@ fn lowered(x: f32) -> f32
     x
 }
 
-// A clamp to 0..1. Raised first and then lowered, it is an instruction each, where math::clamp for any two ends is two branches.
+// A clamp to 0..1: raised first and then lowered, which is an instruction each.
 pub fn unit(x: f32) -> f32
     ensures { λ r. ⌜ r ≡ unitOf x ⌝ }
 {
