@@ -1,15 +1,14 @@
 -- A CODE IS ITS OWN BYTES: two readings that agree in the bytes that a code reads give it the same shape, so two blocks of 242 bytes that agree in them give it the same
--- generator, with all that follows from one: settings, heights and steps, marks, rest, scale, anchor. The gates follow from byte 160. Assumes nothing.
+-- generator, with all that follows from one: settings, heights and steps, marks, rest, scale, anchor. Assumes nothing.
 use mathlib.Core.Path.{_≡_, refl}
 use mathlib.Core.List.{List}
 use Prim.Native.Nat.{ℕ}
 use borrow.Author.Tests.{eq-eqb}
 use lib.ListN.{length}
-use Rattle.generator.specs.Gates.{gatesOf}
 use Rattle.block.specs.declared.Code.{Code}
 use Rattle.block.specs.declared.Code.the-variants.{VcaEnvelope, VcfEnvelope, ModEnvelope, LfoOne, LfoTwo, LfoOneUnipolar, LfoTwoUnipolar, FadeOne, FadeTwo, LowPass, HighPass, OscillatorOne, OscillatorTwo, Noise}
 use Rattle.block.specs.declared.CodeRead.the-variants.{Known}
-use Rattle.block.specs.Codes.{blockLength, gatesByte, byteAt, codeOf, bytesOf, Agree, envelopeAt, lfoAt, shapeOf}
+use Rattle.block.specs.Codes.{blockLength, byteAt, codeOf, bytesOf, Agree, envelopeAt, lfoAt, shapeOf}
 use Rattle.block.specs.Refusals.{chosenBy, chosenOf}
 
 -- ---- THE THEOREM
@@ -35,6 +34,3 @@ pub agreement-chosen : (c : Code) (x y : List ℕ) (code : ℕ) → length x ≡
     → chosenOf x code ≡ chosenOf y code
 unfolding chosenOf chosenBy
 agreement-chosen c x y code lx ly e h = simp (lx, ly, e, agreement c (byteAt x) (byteAt y) h)
-
-pub agreement-gates : (x y : List ℕ) → byteAt x gatesByte ≡ byteAt y gatesByte → gatesOf (byteAt x gatesByte) ≡ gatesOf (byteAt y gatesByte)
-agreement-gates x y e = simp e

@@ -7,7 +7,6 @@ ghost use Rattle.juvrada.specs.Results.{answerNumber, heightResult, stri
 ghost use Rattle.juvrada.specs.Promises.{HeightReturned, StripReturned, MarksReturned, GatesReturned, TapsReturned};
 use block::HeightAnswer;
 use block::refusal_number;
-use curve::Height;
 use generator::GATES_DRAWN;
 use generator::MAX_MARKS;
 use numbers::MAX_SETTINGS;

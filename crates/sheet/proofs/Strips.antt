@@ -1,19 +1,15 @@
 -- WHAT IS PROMISED OF A STRIP FOLLOWS FROM ITS EQUATIONS: it keeps its length, and each sample is the height at its own position, with all that is promised of one. Assumes nothing.
-use mathlib.Core.Path.{_≡_, refl, sym, ap, subst, _∙_}
-use mathlib.Core.Bool.{Bool, true, false, cond}
+use mathlib.Core.Path.{_≡_, refl, sym, ap, _∙_}
 use mathlib.Core.List.{List}
-use Prim.Native.Nat.{ℕ, _≤_, _<_}
-use native.Mathlib.Omega.{arith}
+use Prim.Native.Nat.{ℕ, _<_}
 use lib.Dec.{T}
 use lib.ListN.{length, getD}
 use lib.Ieee.{Float, nan}
 use borrow.Author.Tests.{eq-eqb}
-use Rattle.generator.specs.declared.Shape.{Shape}
 use Rattle.generator.specs.Generator.{generatorOf}
 use Rattle.generator.specs.Heights.{heightOf}
-use Rattle.strip.specs.Strip.{sampleOf, lengthFits, filledOf, stripOf}
-use Rattle.strip.proofs.Laws.{filled-length, filled-at}
-use Rattle.strip.proofs.Near.{sample-fits}
+use Rattle.strip.specs.Strip.{sampleOf, lengthFits, stripOf}
+use Rattle.strip.proofs.Samples.{sample-fits, strip-length, strip-at}
 use Rattle.block.specs.declared.Code.{Code}
 use Rattle.block.specs.declared.CodeRead.the-variants.{Known}
 use Rattle.block.specs.declared.Chosen.{Chosen}
@@ -26,14 +22,6 @@ use Rattle.sheet.specs.Answers.{stripAnswer, stripAfter}
 use Rattle.sheet.specs.Promises.{Sampled, StripAnswered}
 
 -- ---- a strip keeps its length
-strip-length : (s : Shape) (xs : List Float) → length (stripOf s xs) ≡ length xs
-unfolding stripOf
-strip-length s xs = go (lengthFits (length xs))
-  where
-    go : (b : Bool) → length (cond b (filledOf s (length xs) (length xs) xs) xs) ≡ length xs
-    go true = filled-length s (length xs) xs
-    go false = refl
-
 after-length : (a : Chosen) (xs : List Float) → length (stripAfter a xs) ≡ length xs
 unfolding stripAfter
 after-length (AGenerator g) xs = strip-length (g .shape) xs
@@ -44,14 +32,6 @@ after-length (Refused r) xs = refl
 accepted : (block : List ℕ) (code : ℕ) (xs : List Float) (c : Code) → codeOf code ≡ Known c → length block ≡ blockLength → stripAfter (chosenOf block code) xs ≡ stripOf (shapeOf c (byteAt block)) xs
 unfolding stripAfter chosenOf chosenBy generatorOf
 accepted block code xs c k l = simp (eq-eqb (length block) blockLength l, k)
-
-sample-is : (s : Shape) (xs : List Float) → T (lengthFits (length xs)) → (i : ℕ) → i < length xs → getD (stripOf s xs) i nan ≡ heightOf s (sampleOf (length xs) i) .height
-unfolding stripOf
-sample-is s xs t i h = go (lengthFits (length xs)) t
-  where
-    go : (b : Bool) → T b → getD (cond b (filledOf s (length xs) (length xs) xs) xs) i nan ≡ heightOf s (sampleOf (length xs) i) .height
-    go true u = filled-at s (length xs) xs i (omega arith) h
-    go false u = absurd u
 
 pub strip-answered : (block : List ℕ) (code : ℕ) (before after : List Float) (r : StripAnswer) → ((n : ℕ) → byteAt block n < 256)
     → r ≡ stripAnswer (chosenOf block code) (length before) → after ≡ stripAfter (chosenOf block code) before → StripAnswered block code before after r
@@ -64,6 +44,6 @@ strip-answered block code before after r b e a = record { equation = e; strip = 
     own c f t i h =
         record {
           height = heightOf (shapeOf c (byteAt block)) (sampleOf (length after) i);
-          holds = ap (λ (xs : List Float). getD xs i nan) f ∙ sample-is (shapeOf c (byteAt block)) before t i h ∙ ap (λ (n : ℕ). heightOf (shapeOf c (byteAt block)) (sampleOf n i) .height) (sym size);
+          holds = ap (λ (xs : List Float). getD xs i nan) f ∙ strip-at (shapeOf c (byteAt block)) before t i h ∙ ap (λ (n : ℕ). heightOf (shapeOf c (byteAt block)) (sampleOf n i) .height) (sym size);
           promised = block-height c (byteAt block) b (sampleOf (length after) i) (sample-fits (length after) i);
         }

@@ -15,7 +15,6 @@ use Rattle.strip.specs.Strip.{answerOf, stripOf}
 use Rattle.captions.specs.declared.Captioned.{Captioned}
 use Rattle.captions.specs.declared.Captioned.the-variants.{Written, WrongLength as WrongCount}
 use Rattle.captions.specs.Captions.{answerOf as captioned, captionsOf}
-use Rattle.block.specs.declared.Refusal.{Refusal}
 use Rattle.block.specs.declared.Refusal.the-variants.{Block, Strip}
 use Rattle.block.specs.declared.Chosen.{Chosen}
 use Rattle.block.specs.declared.Chosen.the-variants.{Generator as AGenerator, Refused}
