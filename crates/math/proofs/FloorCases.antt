@@ -5,7 +5,7 @@ use Prim.Native.Nat.{ℕ, zero, suc, _+_, _-_, _*_, _/_, _^_, _≤_, _<_}
 use native.Mathlib.Nat.{mul-one, zero-mul, mul-pos, pow-suc, add-zero, div-eq-of-lt-le, le-trans, zero-lt-suc}
 use native.Mathlib.Omega.{arith}
 use lib.Dec.{T, lit≤}
-use lib.IntN.{ℤ, pos, negsuc, negℤ, natAbs, _+ℤ_}
+use lib.IntN.{ℤ, pos, negsuc, negℤ, natAbs, _+ℤ_, +ℤ-idr}
 use lib.Pow.{pow-pos}
 use lib.Ieee.{Float, nan, inf, fin, binary32, up, down, ofBits, round, sum, add, ofInt, neg, sub, lt, fits}
 use lib.Ieee.Fits.{up-pos, down-pos}
@@ -13,10 +13,10 @@ use lib.Ieee.Back.{whole-unique}
 use borrow.Author.Tests.{ltb-true, ltb-false, lt-ltb, le-ltb}
 use Rattle.exact.specs.Fraction.{floorOver}
 use Rattle.exact.specs.Value.{value}
-use Rattle.exact.specs.Binary32.{_⊕_, _⊖_, zero₃₂, one₃₂}
+use Rattle.exact.specs.Binary32.{_⊕_, _⊖_, bits, zero₃₂, one₃₂}
 use Rattle.math.specs.Formulas.{floorOf}
 use Rattle.math.proofs.Whole.{Whole, of-int, sum-whole, below-whole, from-whole, below-minus, from-minus}
-use Rattle.math.proofs.NearWhole.{Nearby, step, near-positive, near-negative}
+use Rattle.math.proofs.NearWhole.{Nearby, step, near-positive, near-negative, centre, centred-positive, centred-negative}
 use Rattle.math.proofs.FloorExact.{digits-lt, floor-self}
 
 -- ---- from 2 ^ 23 on: m * 2 ^ -(k + 1) is below that
@@ -46,9 +46,13 @@ low (fin true m e) f h = big true m e f (subst (λ (n : ℕ). 8388608 * down e �
 low (fin false m e) f h = absurd (left (m * up e) (down e) (down-pos e) (omega (arith, ltb-false 0 (8388608 * down e + m * up e * 1) h)))
 
 -- ---- between: y is the whole number near x, and t says whether x is below it
-minus-one : (y : Float) (z : ℤ) → Whole y z → y ⊖ one₃₂ ≡ ofInt binary32 (z +ℤ negsuc 0)
-unfolding sub neg ofBits
+minus-one : (y : Float) (z : ℤ) → Whole y z → y ⊕ neg one₃₂ ≡ ofInt binary32 (z +ℤ negsuc 0)
+unfolding neg ofBits
 minus-one y z v = sum-whole y (neg one₃₂) z (negsuc 0) v (refl, refl)
+
+no-more : (y : Float) (z : ℤ) → Whole y z → y ⊕ zero₃₂ ≡ ofInt binary32 z
+unfolding ofBits
+no-more y z v = sum-whole y zero₃₂ z (pos 0) v (refl, refl) ∙ ap (λ (k : ℤ). ofInt binary32 k) (+ℤ-idr z)
 
 less-one : (q : ℕ) → negℤ (pos q) +ℤ negsuc 0 ≡ negsuc q
 less-one zero = refl
@@ -72,11 +76,13 @@ quotient n d q h l = div-eq-of-lt-le d h (omega arith)
 
 -- y, or one less where x is below y
 abbrev Stepped : Float → Float → Type 0
-Stepped x y = (t : Bool) → lt x y ≡ t → cond t (y ⊖ one₃₂) y ≡ floorOf x
+Stepped x y = (t : Bool) → lt x y ≡ t → y ⊕ cond t (neg one₃₂) zero₃₂ ≡ floorOf x
 
 positive : (m : ℕ) (e : ℤ) (q : ℕ) (y : Float) → Nearby false (m * up e) (down e) q y → Stepped (fin false m e) y
 unfolding floorOf value
-positive m e q y w false h = w .is ∙ ap (λ (k : ℕ). ofInt binary32 (pos k)) (sym (quotient (m * up e) (down e) q (from-whole m e y q (holds y (pos q) (w .small) (w .is)) h) (w .over)))
+positive m e q y w false h =
+    let v = holds y (pos q) (w .small) (w .is) in
+    no-more y (pos q) v ∙ ap (λ (k : ℕ). ofInt binary32 (pos k)) (sym (quotient (m * up e) (down e) q (from-whole m e y q v h) (w .over)))
 positive m e zero y w true h = absurd (none (m * up e) (down e) (below-whole m e y 0 (holds y (pos 0) (w .small) (w .is)) h))
   where
     none : (n d : ℕ) → n < 0 * d → ⊥
@@ -103,7 +109,8 @@ minus m e k zero y p w false h = absurd (none (m * up e) (down e) p (from-minus 
     none : (n d : ℕ) → n ≡ suc k → n ≤ 0 * d → ⊥
     none n d i h = omega arith
 minus m e k (suc q) y p w false h =
-    w .is ∙ minus-floor m e k q p (quotient k (down e) q (omega arith) (omega (arith, from-minus m e y (suc q) (holds y (negsuc q) (w .small) (w .is)) h)))
+    let v = holds y (negsuc q) (w .small) (w .is) in
+    no-more y (negsuc q) v ∙ minus-floor m e k q p (quotient k (down e) q (omega arith) (omega (arith, from-minus m e y (suc q) v h)))
 
 abbrev near : Float → Float
 near x = cond (lt x zero₃₂) (x ⊖ step ⊕ step) (x ⊕ step ⊖ step)
@@ -134,6 +141,9 @@ minus-near-is m e = simp (lt-ltb 0 (suc m * up e * 1 + 0 * 1 * down e) (some (su
     some : (n d : ℕ) → 0 < n → 0 < n * 1 + 0 * 1 * d
     some n d h = omega arith
 
+one-more : (n : ℕ) → 0 < n → n ≡ suc (n - 1)
+one-more n h = omega arith
+
 pub between : (x : Float) → T (fits binary32 x) → lt x step ≡ true → lt (neg step) x ≡ true → Floored x
 unfolding lt neg ofBits
 between nan f h l = absurd (false≢true h)
@@ -147,6 +157,28 @@ between (fin true (suc m) e) f h l =
     let n = suc m * up e in
     let w = near-negative (suc m) e (subst (λ (k : ℕ). k < 8388608 * down e) (mul-one n) (ltb-true (n * 1) (8388608 * down e) l)) in
     minus (suc m) e (n - 1) (w .0) (near (fin true (suc m) e)) (one-more n (mul-pos (zero-lt-suc m) (up-pos e))) (subst (Nearby true n (down e) (w .0)) (sym (minus-near-is m e)) (w .1))
-  where
-    one-more : (n : ℕ) → 0 < n → n ≡ suc (n - 1)
-    one-more n h = omega arith
+
+-- ---- near 0: the same by way of the centre
+abbrev edge : Float
+edge = bits 0x4a80_0000
+
+abbrev Centred : Float → Type 0
+Centred x = Stepped x (x ⊕ centre ⊖ centre)
+
+centred-minus-zero : Centred (fin true 0 (pos 0))
+unfolding lt sub add neg sum round ofBits ofInt floorOf value
+centred-minus-zero true h = absurd (false≢true h)
+centred-minus-zero false h = refl
+
+pub around : (x : Float) → T (fits binary32 x) → lt x edge ≡ true → lt (neg edge) x ≡ true → Centred x
+unfolding lt neg ofBits
+around nan f h l = absurd (false≢true h)
+around (inf true) f h l = absurd (false≢true l)
+around (inf false) f h l = absurd (false≢true h)
+around (fin false m e) f h l = let w = centred-positive m e (below-whole m e edge 4194304 (refl, refl) h) in positive m e (w .0) _ (w .1)
+around (fin true zero e) f h l = subst Centred (sym (minus-zero e f)) centred-minus-zero
+around (fin true (suc m) e) f h l =
+    let n = suc m * up e in
+    let z = mul-pos (zero-lt-suc m) (up-pos e) in
+    let w = centred-negative (suc m) e z (subst (λ (k : ℕ). k < 4194304 * down e) (mul-one n) (ltb-true (n * 1) (4194304 * down e) l)) in
+    minus (suc m) e (n - 1) (w .0) _ (one-more n z) (w .1)

@@ -19,13 +19,16 @@ above-zero nan h = absurd (false≢true h)
 above-zero (inf s) h = tt
 above-zero (fin s m e) h = tt
 
--- ---- a mantissa's pattern
-not-ones : (b : ℕ) → (1065353216 + b % 8388608) % 2147483648 / 8388608 ≡ 255 → ⊥
-not-ones b e = omega arith
+-- ---- a pattern below that of infinity, and a mantissa's
+not-ones : (b : ℕ) → b < 2139095040 → b % 2147483648 / 8388608 ≡ 255 → ⊥
+not-ones b h e = omega arith
+
+pub number-bits : (b : ℕ) → b < 2139095040 → T (not (nanBits binary32 b))
+unfolding nanBits
+number-bits b h = simp (ne-eqb (b % 2147483648 / 8388608) 255 (not-ones b h)) tt
 
 pub mantissa-number : (b : ℕ) → T (not (nanBits binary32 (1065353216 + b % 8388608)))
-unfolding nanBits
-mantissa-number b = simp (ne-eqb ((1065353216 + b % 8388608) % 2147483648 / 8388608) 255 (not-ones b)) tt
+mantissa-number b = number-bits (1065353216 + b % 8388608) (omega arith)
 
 -- ---- an exponent: the field n, less 127
 abbrev less : ℕ → ℤ

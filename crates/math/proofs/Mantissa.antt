@@ -47,7 +47,7 @@ fields (suc x) t h k =
     none : (y : ℕ) → y ≡ 255 → y < 255 → ⊥
     none y e h = omega arith
 
-bits-are : (b : ℕ) → 127 * 2 ^ 23 ≤ b → b < 255 * 2 ^ 23 → ofBits binary32 b ≡ odd 24 false (2 ^ 23 + b % 2 ^ 23) (b / 2 ^ 23 - 1) 149
+pub bits-are : (b : ℕ) → 127 * 2 ^ 23 ≤ b → b < 255 * 2 ^ 23 → ofBits binary32 b ≡ odd 24 false (2 ^ 23 + b % 2 ^ 23) (b / 2 ^ 23 - 1) 149
 unfolding ofBits
 bits-are b l h =
     ap (λ (s : Bool). ofFields binary32 s (b % 2 ^ 31 / 2 ^ 23) (b % 2 ^ 23)) (is-false (leb (2 ^ 31) b) (not-T (leb (2 ^ 31) b) (λ (e : T (leb (2 ^ 31) b)). none b (leb→le (2 ^ 31) b e) h)))

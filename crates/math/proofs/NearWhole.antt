@@ -1,4 +1,4 @@
--- A WHOLE NUMBER LESS THAN 1 AWAY FROM x: 2 ^ 23 added and taken off again, for an x between -2 ^ 23 and 2 ^ 23. Assumes nothing.
+-- A WHOLE NUMBER LESS THAN 1 AWAY FROM x: 2 ^ 23 added and taken off again, for an x between -2 ^ 23 and 2 ^ 23, or 3 * 2 ^ 22 for one between -2 ^ 22 and 2 ^ 22. Assumes nothing.
 use mathlib.Core.Path.{_≡_, refl, sym, ap, _∙_, subst}
 use mathlib.Core.Bool.{Bool, true, false, cond}
 use Prim.Native.Nat.{ℕ, zero, suc, _+_, _-_, _*_, _/_, _%_, _^_, _≤_, _<_, compare, Ordering, Ordering·lt, Ordering·eq, Ordering·gt}
@@ -50,6 +50,12 @@ closest-near a d h = go (compare (a % d * 2) d) refl
     go Ordering·eq c = tie (a / d % 2) (mod-lt (a / d) (zero-lt-suc 1)) (half (a % d) d h (le-of-eq (sym (eqb-true (a % d * 2) d (ap isEq c)))))
     go Ordering·gt c = next a d (a / d) (a % d) e l (half (a % d) d h (le-of-lt (leb-false (a % d * 2) d (ap isLe c))))
 
+closest-le : (a d : ℕ) → 0 < d → (k : ℕ) → a < k * d → closest a d ≤ k
+closest-le a d h k l = le-trans (nearest-le (a / d) (compare (a % d * 2) d)) (div-lt-iff-lt-mul h .1 l)
+
+closest-ge : (a d : ℕ) → 0 < d → (k : ℕ) → k * d ≤ a → k ≤ closest a d
+closest-ge a d h k l = le-trans (le-div-iff-mul-le h .1 l) (nearest-ge (a / d) (compare (a % d * 2) d))
+
 -- ---- a / d from 2 ^ 23 to 2 ^ 24 is rounded to its nearest whole number: p is the weight of the 149 digits that are dropped
 module _ (a d p : ℕ) (h : 0 < p) where
   reaches : 8388608 * d ≤ a → 8388608 * p * d ≤ a * p
@@ -59,7 +65,7 @@ module _ (a d p : ℕ) (h : 0 < p) where
   stays l = lt-of-lt-of-le (mul-lt-mul-of-pos-right l h) (le-of-eq (mul-right-comm 16777216 d p))
 
 -- a common factor of a value's fraction is left out
-cancel : (x : Float) (s : Bool) (q p : ℕ) → 0 < p → HasValue x s (q * p) p → HasValue x s q 1
+pub cancel : (x : Float) (s : Bool) (q p : ℕ) → 0 < p → HasValue x s (q * p) p → HasValue x s q 1
 cancel nan s q p h v = v
 cancel (inf t) s q p h v = v
 cancel (fin t m e) s q p h v = (v .0, mul-one (m * up e) ∙ eq-of-mul-eq-mul-right p h (m * up e) (q * down e) (v .1 ∙ mul-right-comm q p (down e)))
@@ -83,17 +89,11 @@ module _ (a d : ℕ) (h : 0 < d) (lo : 8388608 * d ≤ a) (hi : a < 16777216 * d
       ∙ ap (λ (k : ℕ). core binary32 s (a * 2 ^ 149) d k) dropped
       ∙ ap (λ (q : ℕ). units binary32 s q 149) (closest-same (a * 2 ^ 149) (d * 2 ^ 149) a d (mul-pos h (pow-pos 149)) h (mul-right-comm a (2 ^ 149) d ∙ mul-assoc a d (2 ^ 149)))
 
-  closest-le : closest a d ≤ 16777216
-  closest-le = le-trans (nearest-le (a / d) (compare (a % d * 2) d)) (div-lt-iff-lt-mul h .1 hi)
-
-  closest-ge : 8388608 ≤ closest a d
-  closest-ge = le-trans (le-div-iff-mul-le h .1 lo) (nearest-ge (a / d) (compare (a % d * 2) d))
-
   rounded-value : (s : Bool) → HasValue (round binary32 s a d) s (closest a d) 1
   rounded-value s =
       cancel (round binary32 s a d) s (closest a d) (2 ^ 149) (pow-pos 149)
       (subst (λ (y : Float). HasValue y s (closest a d * 2 ^ 149) (2 ^ 149)) (sym (rounded s))
-      (units-val binary32 s (closest a d) 149 (lt-of-le-of-lt (mul-le-mul-right (2 ^ 149) closest-le) (lit< tt))))
+      (units-val binary32 s (closest a d) 149 (lt-of-le-of-lt (mul-le-mul-right (2 ^ 149) (closest-le a d h 16777216 hi)) (lit< tt))))
 
 -- ---- 2 ^ 23 taken off again: y is the whole number q, less than 1 away from n / d, with the sign s for both
 pub record Nearby (s : Bool) (n d q : ℕ) (y : Float) : Type 0 where
@@ -119,15 +119,21 @@ minus-is w q h = go (suc q - w) refl
         let z : suc q - suc w ≡ r = omega arith in
         simp (lt-ltb w (suc q) l, z)
 
-taken : (s : Bool) (x : Float) (Q : ℕ) → 8388608 ≤ Q → HasValue x s Q 1 → cond s (x ⊕ step) (x ⊖ step) ≡ ofInt binary32 (cond s (negℤ (pos (Q - 8388608))) (pos (Q - 8388608)))
+pub taken : (s : Bool) (x : Float) (Q : ℕ) → 8388608 ≤ Q → HasValue x s Q 1 → cond s (x ⊕ step) (x ⊖ step) ≡ ofInt binary32 (cond s (negℤ (pos (Q - 8388608))) (pos (Q - 8388608)))
 unfolding sub neg ofBits
 taken false x Q h v = sum-whole x (neg step) (pos Q) (negsuc 8388607) v (refl, refl) ∙ simp (le-ltb Q 8388608 h)
 taken true x zero h v = absurd (omega arith)
 taken true x (suc Q) h v = sum-whole x step (negsuc Q) (pos 8388608) v (refl, refl) ∙ ap (λ (z : ℤ). ofInt binary32 z) (minus-is 8388608 Q h)
 
-moved : (n d q r : ℕ) → q ≡ r + 8388608 → Near (n + 8388608 * d) d q → Near n d r
-moved n d q r e k =
-    let m : q * d ≡ r * d + 8388608 * d = ap (λ (z : ℕ). z * d) e ∙ add-mul r 8388608 d in
+moved : (w n d q r : ℕ) → q ≡ r + w → Near (n + w * d) d q → Near n d r
+moved w n d q r e k =
+    let m : q * d ≡ r * d + w * d = ap (λ (z : ℕ). z * d) e ∙ add-mul r w d in
+    (omega arith, omega arith)
+
+-- n and r taken off
+mirrored : (w n d q r : ℕ) → n ≤ w * d → r + q ≡ w → Near (w * d - n) d q → Near n d r
+mirrored w n d q r l e k =
+    let m : r * d + q * d ≡ w * d = sym (add-mul r q d) ∙ ap (λ (z : ℕ). z * d) e in
     (omega arith, omega arith)
 
 -- x is the sum with 2 ^ 23 of a number of the size n / d
@@ -137,11 +143,11 @@ from-sum s n d x h l e =
     let Q = closest a d in
     let lo : 8388608 * d ≤ a = omega arith in
     let hi : a < 16777216 * d = omega arith in
-    let ge = closest-ge a d h lo hi in
-    let k = moved n d Q (Q - 8388608) (omega arith) (closest-near a d h) in (
+    let ge = closest-ge a d h 8388608 lo in
+    let k = moved 8388608 n d Q (Q - 8388608) (omega arith) (closest-near a d h) in (
       Q - 8388608,
       record {
-        small = omega (arith, closest-le a d h lo hi);
+        small = omega (arith, closest-le a d h 16777216 hi);
         over = k .0;
         under = k .1;
         is = taken s x Q ge (subst (λ (y : Float). HasValue y s Q 1) (sym e) (rounded-value a d h lo hi s));
@@ -155,3 +161,53 @@ near-positive m e h = from-sum false (m * up e) (down e) (fin false m e ⊕ step
 pub near-negative : (m : ℕ) (e : ℤ) → m * up e < 8388608 * down e → (q : ℕ) × Nearby true (m * up e) (down e) q (fin true m e ⊖ step ⊕ step)
 unfolding sub add neg sum ofBits
 near-negative m e h = from-sum true (m * up e) (down e) (fin true m e ⊖ step) (down-pos e) h (simp mul-one)
+
+-- ---- the same with 3 * 2 ^ 22, the middle between 2 ^ 23 and 2 ^ 24: both signs stay between those two
+abbrev pub centre : Float
+centre = bits 0x4b40_0000
+
+off : (x : Float) (Q : ℕ) → HasValue x false Q 1 → x ⊖ centre ≡ ofInt binary32 (subℕ Q 12582912)
+unfolding sub neg ofBits
+off x Q v = sum-whole x (neg centre) (pos Q) (negsuc 12582911) v (refl, refl)
+
+pub centred-positive : (m : ℕ) (e : ℤ) → m * up e < 4194304 * down e → (q : ℕ) × Nearby false (m * up e) (down e) q (fin false m e ⊕ centre ⊖ centre)
+centred-positive m e l =
+    let d = down e in
+    let h = down-pos e in
+    let a = m * up e + 12582912 * d in
+    let Q = closest a d in
+    let hi : a < 16777216 * d = omega arith in
+    let ge = closest-ge a d h 12582912 (omega arith) in
+    let k = moved 12582912 (m * up e) d Q (Q - 12582912) (omega arith) (closest-near a d h) in (
+      Q - 12582912,
+      record {
+        small = omega (arith, closest-le a d h 16777216 hi);
+        over = k .0;
+        under = k .1;
+        is = off _ Q (subst (λ (y : Float). HasValue y false Q 1) (sym is-sum) (rounded-value a d h (omega arith) hi false)) ∙ simp (le-ltb Q 12582912 ge);
+      },
+    )
+  where
+    is-sum : fin false m e ⊕ centre ≡ round binary32 false (m * up e + 12582912 * down e) (down e)
+    is-sum = unfold add sum ofBits in simp mul-one
+
+pub centred-negative : (m : ℕ) (e : ℤ) → 0 < m * up e → m * up e < 4194304 * down e → (q : ℕ) × Nearby true (m * up e) (down e) q (fin true m e ⊕ centre ⊖ centre)
+centred-negative m e z l =
+    let d = down e in
+    let h = down-pos e in
+    let a = 12582912 * d - m * up e in
+    let Q = closest a d in
+    let le = closest-le a d h 12582912 (omega arith) in
+    let hi : a < 16777216 * d = omega arith in
+    let k = mirrored 12582912 (m * up e) d Q (12582912 - Q) (omega arith) (omega arith) (closest-near a d h) in (
+      12582912 - Q,
+      record {
+        small = omega (arith, closest-ge a d h 8388608 (omega arith));
+        over = k .0;
+        under = k .1;
+        is = off _ Q (subst (λ (y : Float). HasValue y false Q 1) (sym is-sum) (rounded-value a d h (omega arith) hi false)) ∙ ap (λ (z : ℤ). ofInt binary32 z) (minus-is Q 12582911 le);
+      },
+    )
+  where
+    is-sum : fin true m e ⊕ centre ≡ round binary32 false (12582912 * down e - m * up e) (down e)
+    is-sum = unfold add sum ofBits in simp (mul-one, lt-ltb (m * up e) (12582912 * down e) (omega arith))

@@ -2,13 +2,19 @@
 // and abs. Each takes every f32, a NaN, an infinity and a zero of either sign among them.
 ghost use mathlib.Core.Path.{_≡_};
 ghost use mathlib.Core.Bool.{cond};
-ghost use lib.Ieee.{lt};
-ghost use Rattle.exact.specs.Binary32.{_⊕_, _⊖_, bits, zero₃₂};
+ghost use lib.IntN.{pos};
+ghost use lib.Ieee.{binary32, ofInt, lt, neg};
+ghost use Rattle.exact.specs.Binary32.{_⊕_, _⊖_, bits, zero₃₂, one₃₂};
 ghost use Rattle.math.specs.Horner.{horner};
 ghost use Rattle.math.specs.Formulas.{unsignedZero, minOf, maxOf, clampOf, absOf, floorOf, fractOf, exp2Coefficients, exp2Of, log2Mantissa, log2Of, halfOf, quarterOf, signOf, sineOfQuarter, sinTurnsOf};
 
 // From here on an f32 has no fraction: 2 to the power 23.
 const WHOLE: f32 = 8388608.0;
+
+// Half of that, and the number in the middle between it and its double.
+const NEAR: f32 = 4194304.0;
+
+const CENTRE: f32 = 12582912.0;
 
 // What one step of the exponent's field weighs in a bit pattern.
 const FIELD: u32 = 0x80_0000;
@@ -30,6 +36,13 @@ const SINE_5: f32 = 1.0 / 120.0;
 const SINE_7: f32 = -1.0 / 5040.0;
 
 const SINE_9: f32 = 1.0 / 362880.0;
+
+// A number of 16 bits, exactly: beside 2 to the power 23 it is the last digits of the bits. `n as f32` is an instruction that waits for what its register held before.
+pub fn from_u16(n: u16) -> f32
+    ensures { λ r. ⌜ r ≡ ofInt binary32 (pos n) ⌝ }
+{
+    f32::from_bits(0x4b00_0000 + n as u32) - WHOLE
+}
 
 // x, and +0 for a zero of either sign.
 fn unsigned_zero(x: f32) -> f32
@@ -113,8 +126,18 @@ fn nearby(x: f32) -> f32
     x + WHOLE - WHOLE
 }
 
-// The largest whole number not above x.
-pub fn floor(x: f32) -> f32
+// What leads from a whole number less than 1 away from x to the largest not above x. It is added and not tested for: a branch here would go either way.
+fn drop(x: f32, whole: f32) -> f32
+    ensures { λ r. ⌜ r ≡ cond (lt x whole) (neg one₃₂) zero₃₂ ⌝ }
+{
+    if x < whole {
+        return -1.0;
+    }
+    0.0
+}
+
+// The floor of any x.
+fn far_floor(x: f32) -> f32
     ensures { λ r. ⌜ r ≡ floorOf x ⌝ }
 {
     if !(x < WHOLE) {
@@ -124,10 +147,20 @@ pub fn floor(x: f32) -> f32
         return x;
     }
     let whole = nearby(x);
-    if x < whole {
-        return whole - 1.0;
+    whole + drop(x, whole)
+}
+
+// The largest whole number not above x. Near 0, where every caller's x lies, the sum with the centre is rounded to a whole number for either sign of x.
+pub fn floor(x: f32) -> f32
+    ensures { λ r. ⌜ r ≡ floorOf x ⌝ }
+{
+    if x < NEAR {
+        if -NEAR < x {
+            let whole = x + CENTRE - CENTRE;
+            return whole + drop(x, whole);
+        }
     }
-    whole
+    far_floor(x)
 }
 
 // What is left of x above its floor.

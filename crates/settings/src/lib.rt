@@ -2,6 +2,7 @@
 ghost use mathlib.Core.Path.{_≡_};
 ghost use Rattle.settings.specs.Settings.{byteOf, bendOf, sustainEndOf, envelopeOf, shapeOf, turnsOf, lfoOf, fadeOf, lowPassOf, highPassOf, poleSlopeOf, isManual, oscillatorOneOf, oscillatorTwoOf, noiseOf};
 use math::exp2;
+use math::from_u16;
 
 // Where an envelope's attack, decay and sustain end, its two levels, and the bends of its timed segments.
 pub struct Envelope {
@@ -75,7 +76,7 @@ const PULSE_REACH: f32 = 0.49;
 pub fn byte(raw: u8) -> f32
     ensures { λ r. ⌜ r ≡ byteOf raw ⌝ }
 {
-    raw as f32 / 255.0
+    from_u16(raw as u16) / 255.0
 }
 
 // ---- envelope

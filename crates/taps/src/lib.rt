@@ -39,13 +39,16 @@ fn used(taps: Taps) -> usize
     MAX_TAPS
 }
 
-// The height so far, or the tap's where that is larger.
+// The height so far, or the tap's where that is larger. Most positions are beyond the tap to one side: the distance is taken of the others alone.
 fn tap_height(at: f32, tall: f32, t: f32, height: f32) -> f32
     ensures { λ r. ⌜ r ≡ tapHeightOf at tall t height ⌝ }
 {
-    let distance = abs(t - at);
-    if distance < WIDTH {
-        return max(height, tall * (1.0 - distance / WIDTH));
+    let offset = t - at;
+    if offset < WIDTH {
+        if -WIDTH < offset {
+            let distance = abs(offset);
+            return max(height, tall * (1.0 - distance / WIDTH));
+        }
     }
     height
 }

@@ -1,10 +1,8 @@
 -- `floor` is `floorOf`. Assumes nothing.
-use mathlib.Core.Path.{sym, subst}
-use mathlib.Core.Bool.{true, false}
+use mathlib.Core.Path.{refl, sym, subst}
 use lib.Dec.{T}
 use lib.Ieee.{binary32, fits}
-use borrow.Author.Tests.{not-true, not-false}
-use Rattle.math.proofs.FloorCases.{high, low, between}
+use Rattle.math.proofs.FloorCases.{around}
 use borrow.Author.Needs.{needs}
 use Rattle.math.proofs.floor.Statement.{statement}
 use Rattle.math.proofs.floor.Tie as tie
@@ -13,20 +11,17 @@ use Rattle.math.proofs.floor.Tie as tie
 held : (c : tie.Start) → T (fits binary32 (c .args .x))
 held c = subst T (sym (c .good .0 .1)) tt
 
+drop-requires : tie.Need-drop-requires
+drop-requires c κs = search needs
+
 returns : tie.Need-returns
-returns c = high _ (held (c .before)) (not-true _ (c .if1 .taken))
+returns c = simp (c .drop .ensures) (around _ (held (c .before .before .before)) (c .before .before .if1 .taken) (c .before .if2 .taken) _ refl)
+
+far-floor-requires : tie.Need-far-floor-requires
+far-floor-requires c κs = search needs
 
 returns-2 : tie.Need-returns-2
-returns-2 c = low _ (held (c .before .before)) (not-true _ (c .if2 .taken))
-
-nearby-requires : tie.Need-nearby-requires
-nearby-requires c κs = search needs
-
-returns-3 : tie.Need-returns-3
-returns-3 c = simp (c .before .nearby .ensures) (between _ (held (c .before .before .before .before)) (not-false _ (c .before .before .before .if1 .left)) (not-false _ (c .before .before .if2 .left)) true (simp (c .before .nearby .ensures) at (c .if3 .taken)))
-
-returns-4 : tie.Need-returns-4
-returns-4 c = simp (c .before .nearby .ensures) (between _ (held (c .before .before .before .before)) (not-false _ (c .before .before .before .if1 .left)) (not-false _ (c .before .before .if2 .left)) false (simp (c .before .nearby .ensures) at (c .if3 .left)))
+returns-2 c = search needs
 
 pub floor-spec : {M : Type 1} → statement M
-floor-spec = tie.close (tie.spec returns returns-2 nearby-requires returns-3 returns-4)
+floor-spec = tie.close (tie.spec drop-requires returns far-floor-requires returns-2)

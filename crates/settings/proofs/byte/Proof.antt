@@ -1,16 +1,15 @@
 -- `byte` is `byteOf`. Assumes nothing.
-use mathlib.Core.Path.{refl}
 use Rattle.settings.specs.Settings.{byteOf}
 use borrow.Author.Needs.{needs}
 use Rattle.settings.proofs.byte.Statement.{statement}
 use Rattle.settings.proofs.byte.Tie as tie
 
-int-to-float-result : tie.Need-int-to-float-result
-int-to-float-result c = search needs
+from-u16-requires : tie.Need-from-u16-requires
+from-u16-requires c κs = search needs
 
 returns : tie.Need-returns
 unfolding byteOf
-returns c = refl
+returns c = simp (c .from-u16 .ensures)
 
 pub byte-spec : {M : Type 1} → statement M
-byte-spec = tie.close (tie.spec int-to-float-result returns)
+byte-spec = tie.close (tie.spec from-u16-requires returns)
