@@ -8,7 +8,7 @@ use lib.Pow.{pow-pos}
 use lib.Ieee.{Float, binary32, odd, ofBits, ofInt}
 use lib.Ieee.Exact.{HasValue, odd-sign}
 use Rattle.exact.specs.Binary32.{_⊖_, bits}
-use Rattle.math.proofs.Mantissa.{bits-are}
+use Rattle.math.proofs.Bits.{bits-are}
 use Rattle.math.proofs.NearWhole.{step, cancel, taken}
 
 digits : (n : ℕ) → n < 65536 → HasValue (bits (0x4b00_0000 + n)) false (8388608 + n) 1

@@ -16,7 +16,7 @@ use Rattle.exact.proofs.Parts.{part⁺, part⁻, num⁺, num⁻, difference-par
 use Rattle.exact.proofs.Order.{≤ℚ-parts, ≤ℚ-total, parts-≡ℤ, within-sym}
 use Rattle.exact.proofs.Relative.{relative-across, over-positive}
 use Rattle.math.specs.Series.{log2Seriesℚ, log2Mantissaℚ, log2At, log2ℚ}
-use Rattle.math.proofs.Mantissa.{pow-less}
+use Rattle.math.proofs.Bits.{pow-less}
 use Rattle.math.proofs.Log2Error.{exact-log}
 use Rattle.math.proofs.Nonnegative.{Quotient, fraction, quotient, natural, _⊞_, _≼_, ≼-refl, ≼-trans, ≼-within, ⊞-mono, ⊞-assoc'}
 use Rattle.math.proofs.ExactExp2.{same-or-next}

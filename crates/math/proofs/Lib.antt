@@ -8,6 +8,7 @@ pub mod FloorExact
 pub mod FloorCases
 pub mod Scale
 pub mod Logarithm
+pub mod Bits
 pub mod Digits
 -- the theorems
 pub mod FloorLaws
