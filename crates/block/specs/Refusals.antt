@@ -7,6 +7,9 @@ use lib.ListN.{length}
 use lib.Ieee.{Float}
 use Rattle.generator.specs.Generator.{generatorOf}
 use Rattle.generator.specs.Heights.{heightOf}
+use Rattle.strip.specs.declared.Filled.{Filled}
+use Rattle.strip.specs.declared.Filled.the-variants.{Steps, WrongLength}
+use Rattle.strip.specs.Strip.{answerOf, stripOf}
 use Rattle.block.specs.declared.Refusal.{Refusal}
 use Rattle.block.specs.declared.Refusal.the-variants.{Block, Code, Strip}
 use Rattle.block.specs.declared.CodeRead.{CodeRead}
@@ -15,6 +18,8 @@ use Rattle.block.specs.declared.Chosen.{Chosen}
 use Rattle.block.specs.declared.Chosen.the-variants.{Generator as AGenerator, Refused}
 use Rattle.block.specs.declared.HeightAnswer.{HeightAnswer}
 use Rattle.block.specs.declared.HeightAnswer.the-variants.{Height as AHeight, Refused as NoHeight}
+use Rattle.block.specs.declared.StripAnswer.{StripAnswer}
+use Rattle.block.specs.declared.StripAnswer.the-variants.{Filled as AStrip, Refused as NoStrip}
 use Rattle.block.specs.Codes.{byteAt, blockLength, codeOf, shapeOf}
 
 unfoldable pub refusalNumber : Refusal → ℕ
@@ -35,3 +40,17 @@ chosenOf block code = cond (eqb (length block) blockLength) (chosenBy (codeOf co
 unfoldable pub heightAnswer : Chosen → Float → HeightAnswer
 heightAnswer (AGenerator g) t = AHeight (heightOf (g .shape) t)
 heightAnswer (Refused r) t = NoHeight r
+
+-- A strip of n samples: the sum of their steps, or the refusal of its length, which is the last to be looked for.
+unfoldable pub filledAnswer : Filled → StripAnswer
+filledAnswer (Steps n) = AStrip n
+filledAnswer WrongLength = NoStrip Strip
+
+unfoldable pub stripAnswer : Chosen → ℕ → StripAnswer
+stripAnswer (AGenerator g) n = filledAnswer (answerOf (g .shape) n)
+stripAnswer (Refused r) n = NoStrip r
+
+-- What the strip holds afterwards.
+unfoldable pub stripAfter : Chosen → List Float → List Float
+stripAfter (AGenerator g) before = stripOf (g .shape) before
+stripAfter (Refused r) before = before

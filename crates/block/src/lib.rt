@@ -1,10 +1,11 @@
-// A block of a program's bytes and a generator's code, read as a generator or refused.
+// A block of a program's bytes and a generator's code, read as a generator or refused; the height and the strip of what is read.
 ghost use mathlib.Core.Path.{_≡_};
 ghost use Prim.Native.Nat.{_+_, _≤_};
 ghost use lib.ListN.{length};
 ghost use Rattle.generator.specs.Heights.{heightOf};
+ghost use Rattle.strip.specs.Strip.{stepsOf, stripOf};
 ghost use Rattle.block.specs.Codes.{byteAt, codeOf, blockLength, envelopeAt, lfoAt, shapeOf};
-ghost use Rattle.block.specs.Refusals.{refusalNumber, chosenOf};
+ghost use Rattle.block.specs.Refusals.{refusalNumber, chosenOf, stripAnswer, stripAfter};
 ghost use Rattle.block.specs.Promises.{HeightAnswered};
 use curve::Height;
 use envelope::envelope_height;
@@ -25,6 +26,13 @@ use settings::oscillator_two_from;
 use simple::fade_height;
 use simple::noise_height;
 use simple::oscillator_height;
+use strip::fill_envelope;
+use strip::fill_fade;
+use strip::fill_filter;
+use strip::fill_lfo;
+use strip::fill_noise;
+use strip::fill_oscillator;
+use strip::fits;
 use walk::lfo_height;
 
 // Why an input is refused: the block's length, the code, the strip's length.
@@ -63,6 +71,11 @@ pub enum Chosen {
 
 pub enum HeightAnswer {
     Height(Height),
+    Refused(Refusal),
+}
+
+pub enum StripAnswer {
+    Filled(u32),
     Refused(Refusal),
 }
 
@@ -183,6 +196,32 @@ fn height_at(block: &[u8], code: Code, t: f32) -> Height
     }
 }
 
+// The strip of a code's shape, which is never stored here either.
+fn strip_at(block: &[u8], code: Code, out: &mut [f32]) -> u32
+    requires { ⌜ length (now block) ≡ blockLength ⌝ }
+    ensures { λ r. ⌜ (r ≡ stepsOf (shapeOf code (byteAt (now (block .entry)))) (length (now (out .entry)))) × (now (out .exit) ≡ stripOf (shapeOf code (byteAt (now (block .entry)))) (now (out .entry))) ⌝ }
+{
+    match code {
+        Code::VcaEnvelope => fill_envelope(envelope_at(block, 53), out),
+        Code::VcfEnvelope => fill_envelope(envelope_at(block, 62), out),
+        Code::ModEnvelope => fill_envelope(envelope_at(block, 71), out),
+        Code::LfoOne => fill_lfo(lfo_at(block, 2, false), out),
+        Code::LfoTwo => fill_lfo(lfo_at(block, 9, false), out),
+        Code::LfoOneUnipolar => fill_lfo(lfo_at(block, 2, true), out),
+        Code::LfoTwoUnipolar => fill_lfo(lfo_at(block, 9, true), out),
+        Code::FadeOne => fill_fade(fade_from(block[1]), out),
+        Code::FadeTwo => fill_fade(fade_from(block[8]), out),
+        Code::LowPass => fill_filter(low_pass_from(block[41], block[51]), out),
+        Code::HighPass => fill_filter(high_pass(), out),
+        Code::OscillatorOne => fill_oscillator(
+            oscillator_one_from(block[16], block[18], block[19], block[25]),
+            out,
+        ),
+        Code::OscillatorTwo => fill_oscillator(oscillator_two_from(block[26]), out),
+        Code::Noise => fill_noise(noise_from(block[33]), out),
+    }
+}
+
 // ---- the block's length is tested first, then the code
 pub fn choose(block: &[u8], code: u8) -> Chosen
     ensures { λ r. ⌜ r ≡ chosenOf (now (block .entry)) code ⌝ }
@@ -208,8 +247,32 @@ pub fn height(block: &[u8], code: u8, t: f32) -> HeightAnswer
     match read {
         CodeRead::Known(c) => {
             let drawn = height_at(block, c, t);
-            HeightAnswer::Height(drawn)
+            // field by field: a copy of the whole would wait for the two stores that made it
+            HeightAnswer::Height(Height {
+                height: drawn.height,
+                steps: drawn.steps,
+            })
         }
         CodeRead::Above => HeightAnswer::Refused(Refusal::Code),
+    }
+}
+
+// The strip of what `choose` chooses: from the left edge to the right. What is refused leaves it as it was.
+pub fn strip(block: &[u8], code: u8, out: &mut [f32]) -> StripAnswer
+    ensures { λ r. ⌜ (r ≡ stripAnswer (chosenOf (now (block .entry)) code) (length (now (out .entry)))) × (now (out .exit) ≡ stripAfter (chosenOf (now (block .entry)) code) (now (out .entry))) ⌝ }
+{
+    if block.len() != BLOCK {
+        return StripAnswer::Refused(Refusal::Block);
+    }
+    let read = code_from(code);
+    match read {
+        CodeRead::Known(c) => {
+            if !fits(out.len()) {
+                return StripAnswer::Refused(Refusal::Strip);
+            }
+            let steps = strip_at(block, c, out);
+            StripAnswer::Filled(steps)
+        }
+        CodeRead::Above => StripAnswer::Refused(Refusal::Code),
     }
 }

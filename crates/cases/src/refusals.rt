@@ -1,8 +1,8 @@
 // What is refused, and what is not: the numbers of blocks, codes and strips about each limit.
 use crate::report;
 use block::HeightAnswer;
+use block::StripAnswer;
 use block::refusal_number;
-use sheet::StripAnswer;
 
 // The refusal's number, and 0 for none.
 fn of_height(answer: HeightAnswer) -> u32 {

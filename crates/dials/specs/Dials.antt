@@ -9,7 +9,7 @@ use Rattle.text.specs.Spelled.{decimalOf}
 use Rattle.block.specs.Codes.{byteAt, blockLength}
 use Rattle.block.specs.declared.Code.{Code}
 use Rattle.block.specs.declared.Code.the-variants.{VcaEnvelope, VcfEnvelope, ModEnvelope, LfoOne, LfoTwo, LfoOneUnipolar, LfoTwoUnipolar, FadeOne, FadeTwo, LowPass, HighPass, OscillatorOne, OscillatorTwo, Noise}
-use Rattle.dials.specs.Notes.{switchNote, shapeNote, polesNote, sourceNote, depthNote}
+use Rattle.notes.specs.Notes.{switchNote, shapeNote, polesNote, sourceNote, depthNote}
 
 -- How far below the frame the four lines are, in hundredths of a millimetre.
 abbrev pub lineOne : ℕ

@@ -1,3 +1,2 @@
 -- The lines of a panel that say what to dial in.
-pub mod Notes
 pub mod Dials

@@ -9,7 +9,7 @@ use Rattle.strip.specs.Strip.{written}
 use Rattle.numbers.specs.Arrays.{markPosition, markKind, marksUsed, gateStart, gateEnd, gatesUsed}
 use Rattle.block.specs.declared.HeightAnswer.{HeightAnswer}
 use Rattle.block.specs.declared.HeightAnswer.the-variants.{Height as AHeight}
-use Rattle.sheet.specs.declared.StripAnswer.{StripAnswer}
+use Rattle.block.specs.declared.StripAnswer.{StripAnswer}
 use Rattle.sheet.specs.declared.MarksAnswer.{MarksAnswer}
 use Rattle.sheet.specs.declared.GatesAnswer.{GatesAnswer}
 use Rattle.block.specs.Promises.{HeightAnswered}

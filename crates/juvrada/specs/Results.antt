@@ -18,8 +18,8 @@ use Rattle.sheet.specs.declared.Answer.{Answer}
 use Rattle.sheet.specs.declared.Answer.the-variants.{Accepted, Refused}
 use Rattle.block.specs.declared.HeightAnswer.{HeightAnswer}
 use Rattle.block.specs.declared.HeightAnswer.the-variants.{Height as AHeight, Refused as NoHeight}
-use Rattle.sheet.specs.declared.StripAnswer.{StripAnswer}
-use Rattle.sheet.specs.declared.StripAnswer.the-variants.{Filled, Refused as NoStrip}
+use Rattle.block.specs.declared.StripAnswer.{StripAnswer}
+use Rattle.block.specs.declared.StripAnswer.the-variants.{Filled, Refused as NoStrip}
 use Rattle.sheet.specs.declared.RestAnswer.{RestAnswer}
 use Rattle.sheet.specs.declared.RestAnswer.the-variants.{Rest, Refused as NoRest}
 use Rattle.sheet.specs.declared.ScaleAnswer.{ScaleAnswer}

@@ -6,6 +6,7 @@ ghost use Rattle.sheet.specs.Answers.{settingsAnswer, restAnswer, scaleAnswer, 
 ghost use Rattle.juvrada.specs.Results.{answerNumber, heightResult, stripResult, restResult, scaleResult, anchoredResult, settingsResult, settingsAfter, tapsOf, tapsAnswer};
 ghost use Rattle.juvrada.specs.Promises.{HeightReturned, StripReturned, MarksReturned, GatesReturned, TapsReturned};
 use block::HeightAnswer;
+use block::StripAnswer;
 use block::refusal_number;
 use generator::GATES_DRAWN;
 use generator::MAX_MARKS;
@@ -28,7 +29,6 @@ use sheet::MarksAnswer;
 use sheet::RestAnswer;
 use sheet::ScaleAnswer;
 use sheet::SettingsAnswer;
-use sheet::StripAnswer;
 use taps::MAX_TAPS;
 use taps::Taps;
 

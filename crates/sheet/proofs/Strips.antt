@@ -14,11 +14,10 @@ use Rattle.block.specs.declared.Code.{Code}
 use Rattle.block.specs.declared.CodeRead.the-variants.{Known}
 use Rattle.block.specs.declared.Chosen.{Chosen}
 use Rattle.block.specs.declared.Chosen.the-variants.{Generator as AGenerator, Refused}
+use Rattle.block.specs.declared.StripAnswer.{StripAnswer}
 use Rattle.block.specs.Codes.{blockLength, byteAt, codeOf, shapeOf}
-use Rattle.block.specs.Refusals.{chosenBy, chosenOf}
+use Rattle.block.specs.Refusals.{chosenBy, chosenOf, stripAnswer, stripAfter}
 use Rattle.block.proofs.EveryCode.{block-height}
-use Rattle.sheet.specs.declared.StripAnswer.{StripAnswer}
-use Rattle.sheet.specs.Answers.{stripAnswer, stripAfter}
 use Rattle.sheet.specs.Promises.{Sampled, StripAnswered}
 
 -- ---- a strip keeps its length

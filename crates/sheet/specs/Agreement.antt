@@ -3,8 +3,8 @@ use mathlib.Core.Path.{_≡_}
 use mathlib.Core.List.{List}
 use Prim.Native.Nat.{ℕ}
 use lib.Ieee.{Float}
-use Rattle.block.specs.Refusals.{chosenOf, heightAnswer}
-use Rattle.sheet.specs.Answers.{settingsAnswer, stripAnswer, stripAfter, captionsAfter, marksAnswer, restAnswer, scaleAnswer, anchoredAnswer}
+use Rattle.block.specs.Refusals.{chosenOf, heightAnswer, stripAnswer, stripAfter}
+use Rattle.sheet.specs.Answers.{settingsAnswer, captionsAfter, marksAnswer, restAnswer, scaleAnswer, anchoredAnswer}
 
 -- Two blocks give a code the same answers throughout.
 pub record SameAnswers (x y : List ℕ) (code : ℕ) : Type 0 where

@@ -4,16 +4,12 @@ use mathlib.Core.List.{List}
 use Prim.Native.Nat.{ℕ}
 use lib.Dec.{eqb}
 use lib.ListN.{length}
-use lib.Ieee.{Float}
 use Rattle.generator.specs.Generator.{restOf, anchoredOf}
 use Rattle.generator.specs.Marks.{noMarks, marksOf}
 use Rattle.generator.specs.Gates.{gatesOf}
 use Rattle.bars.specs.Bars.{barsOf}
-use Rattle.strip.specs.declared.Filled.{Filled}
-use Rattle.strip.specs.declared.Filled.the-variants.{Steps, WrongLength}
-use Rattle.strip.specs.Strip.{answerOf, stripOf}
 use Rattle.captions.specs.declared.Captioned.{Captioned}
-use Rattle.captions.specs.declared.Captioned.the-variants.{Written, WrongLength as WrongCount}
+use Rattle.captions.specs.declared.Captioned.the-variants.{Written, WrongLength}
 use Rattle.captions.specs.Captions.{answerOf as captioned, captionsOf}
 use Rattle.block.specs.declared.Refusal.the-variants.{Block, Strip}
 use Rattle.block.specs.declared.Chosen.{Chosen}
@@ -23,8 +19,6 @@ use Rattle.sheet.specs.declared.Answer.{Answer}
 use Rattle.sheet.specs.declared.Answer.the-variants.{Accepted, Refused as IsRefused}
 use Rattle.sheet.specs.declared.SettingsAnswer.{SettingsAnswer}
 use Rattle.sheet.specs.declared.SettingsAnswer.the-variants.{Settings, Refused as NoSettings}
-use Rattle.sheet.specs.declared.StripAnswer.{StripAnswer}
-use Rattle.sheet.specs.declared.StripAnswer.the-variants.{Filled as AStrip, Refused as NoStrip}
 use Rattle.sheet.specs.declared.MarksAnswer.{MarksAnswer}
 use Rattle.sheet.specs.declared.RestAnswer.{RestAnswer}
 use Rattle.sheet.specs.declared.RestAnswer.the-variants.{Rest, Refused as NoRest}
@@ -38,24 +32,10 @@ unfoldable pub settingsAnswer : Chosen → SettingsAnswer
 settingsAnswer (AGenerator g) = Settings (g .shape)
 settingsAnswer (Refused r) = NoSettings r
 
--- A strip of n samples: the sum of their steps, or the refusal of its length, which is the last to be looked for.
-unfoldable pub filledAnswer : Filled → StripAnswer
-filledAnswer (Steps n) = AStrip n
-filledAnswer WrongLength = NoStrip Strip
-
-unfoldable pub stripAnswer : Chosen → ℕ → StripAnswer
-stripAnswer (AGenerator g) n = filledAnswer (answerOf (g .shape) n)
-stripAnswer (Refused r) n = NoStrip r
-
--- What the strip holds afterwards.
-unfoldable pub stripAfter : Chosen → List Float → List Float
-stripAfter (AGenerator g) before = stripOf (g .shape) before
-stripAfter (Refused r) before = before
-
 -- Captions of n samples, and what their slice holds afterwards.
 unfoldable pub captionedAnswer : Captioned → Answer
 captionedAnswer Written = Accepted
-captionedAnswer WrongCount = IsRefused Strip
+captionedAnswer WrongLength = IsRefused Strip
 
 unfoldable pub captionsAnswer : Chosen → ℕ → Answer
 captionsAnswer (AGenerator g) n = captionedAnswer (captioned n)

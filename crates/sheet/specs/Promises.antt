@@ -16,11 +16,10 @@ use Rattle.taps.specs.Exact.{tapsHeightℚ}
 use Rattle.strip.specs.Strip.{sampleOf, lengthFits}
 use Rattle.block.specs.declared.Code.{Code}
 use Rattle.block.specs.declared.CodeRead.the-variants.{Known}
+use Rattle.block.specs.declared.StripAnswer.{StripAnswer}
 use Rattle.block.specs.Codes.{blockLength, byteAt, codeOf}
-use Rattle.block.specs.Refusals.{chosenOf}
+use Rattle.block.specs.Refusals.{chosenOf, stripAnswer, stripAfter}
 use Rattle.block.specs.Promises.{CodePromised}
-use Rattle.sheet.specs.declared.StripAnswer.{StripAnswer}
-use Rattle.sheet.specs.Answers.{stripAnswer, stripAfter}
 
 -- ---- of a strip
 -- Sample i of a strip, of n: it is the height at its own position, and of that height all is promised that belongs to the code and the block's bytes.

@@ -10,6 +10,7 @@ use block::BLOCK;
 use block::Chosen;
 use block::HeightAnswer;
 use block::Refusal;
+use block::StripAnswer;
 use block::choose;
 use captions::Captioned;
 use curve::Height;
@@ -19,8 +20,6 @@ use generator::Scale;
 use generator::Shape;
 use generator::arpeggiator_gates;
 use generator::no_marks;
-use strip::Filled;
-use strip::fill;
 use taps::Taps;
 
 // An answer that holds arrays is a record beside them, since an enum holds none.
@@ -31,11 +30,6 @@ pub enum Answer {
 
 pub enum SettingsAnswer {
     Settings(Shape),
-    Refused(Refusal),
-}
-
-pub enum StripAnswer {
-    Filled(u32),
     Refused(Refusal),
 }
 
@@ -137,17 +131,7 @@ pub fn anchored(block: &[u8], code: u8) -> AnchoredAnswer
 pub fn strip(block: &[u8], code: u8, out: &mut [f32]) -> StripAnswer
     ensures { λ r. ⌜ StripAnswered (now (block .entry)) code (now (out .entry)) (now (out .exit)) r ⌝ }
 {
-    let chosen = choose(block, code);
-    match chosen {
-        Chosen::Generator(g) => {
-            let filled = fill(g, out);
-            match filled {
-                Filled::Steps(steps) => StripAnswer::Filled(steps),
-                Filled::WrongLength => StripAnswer::Refused(Refusal::Strip),
-            }
-        }
-        Chosen::Refused(r) => StripAnswer::Refused(r),
-    }
+    block::strip(block, code, out)
 }
 
 // Fills the slice with the caption of each sample. What is refused leaves it as it was.

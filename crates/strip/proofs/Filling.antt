@@ -1,17 +1,18 @@
 -- FILLING A STRIP SAMPLE BY SAMPLE: one sample more, and what is answered. Assumes nothing.
 use mathlib.Core.Path.{_≡_, refl, sym, ap, _∙_}
-use mathlib.Core.Bool.{true, false}
+use mathlib.Core.Bool.{Bool, true, false, not}
 use mathlib.Core.List.{List}
 use Prim.Native.Nat.{ℕ, zero, suc, _+_, _*_, _-_, _≤_}
 use native.Mathlib.Numerals.{add-one}
+use borrow.Author.Tests.{not-true, not-false}
 use lib.ListN.{length, set}
 use lib.Ieee.{Float}
 use Rattle.curve.specs.declared.Height.{Height}
 use Rattle.generator.specs.declared.Shape.{Shape}
 use Rattle.generator.specs.Heights.{heightOf}
-use Rattle.strip.specs.Strip.{partOf, sampleOf, lengthFits, filledOf, stepSum, answerOf, stripOf}
+use Rattle.strip.specs.Strip.{partOf, sampleOf, lengthFits, filledOf, stepSum, stepsOf, answerOf, stripOf}
 use Rattle.strip.specs.declared.Filled.the-variants.{Steps, WrongLength}
-use Rattle.strip.proofs.Written.{written-next, written-whole}
+use Rattle.strip.proofs.Written.{written-next}
 use Rattle.strip.proofs.Laws.{height-steps, sum-at-most}
 
 module _ (s : Shape) (n i : ℕ) where
@@ -38,32 +39,28 @@ module _ (s : Shape) (n i : ℕ) where
   pub total-small : {total : ℕ} → total ≡ stepSum s n i → total ≤ 65535 * i
   total-small a = rw a (sum-at-most s n i)
 
-  -- After the last sample the strip is filled.
-  pub filled-whole : (xs : List Float) {total : ℕ} {ys : List Float} → i ≡ n → total ≡ stepSum s n i → ys ≡ filledOf s n i xs → (total ≡ stepSum s n n) × (ys ≡ filledOf s n n xs)
-  filled-whole xs b d e = (simp (d, b), written-whole (λ (j : ℕ). heightOf s (sampleOf n j) .height) i n xs b e)
-
-  pub filled-end : (xs : List Float) {ys : List Float} → i ≡ n → ys ≡ filledOf s n i xs → ys ≡ filledOf s n n xs
-  filled-end xs b e = simp (e, b)
-
--- ---- a shape's heights by its family: where they take no steps their sum is 0
-stepless : (s : Shape) → ((t : Float) → heightOf s t .steps ≡ 0) → (n k : ℕ) → 0 ≡ stepSum s n k
+-- Where no height takes steps their sum is 0.
+pub stepless : (s : Shape) → ((t : Float) → heightOf s t .steps ≡ 0) → (n k : ℕ) → 0 ≡ stepSum s n k
 unfolding stepSum
 stepless s z n zero = refl
 stepless s z n (suc k) = simp (z (sampleOf n k), sym (stepless s z n k))
 
-module _ {shape : Shape} (s : Shape) (n : ℕ) (xs : List Float) {ys : List Float} (e : shape ≡ s) where
-  pub without-steps : ((t : Float) → heightOf s t .steps ≡ 0) → ys ≡ filledOf s n n xs → (0 ≡ stepSum shape n n) × (ys ≡ filledOf shape n n xs)
-  without-steps z h = simp e (stepless s z n n, h)
+-- ---- the steps, the answer, and what the strip holds, by what `fits` says of the length
+module _ (s : Shape) (xs : List Float) {fit : Bool} (e : fit ≡ lengthFits (length xs)) where
+  pub refused : not fit ≡ true → (0 ≡ stepsOf s (length xs)) × (xs ≡ stripOf s xs)
+  unfolding stepsOf stripOf
+  refused t = let h = sym e ∙ not-true fit t in (simp h, simp h)
 
-  pub with-steps : {total : ℕ} → (total ≡ stepSum s n n) × (ys ≡ filledOf s n n xs) → (total ≡ stepSum shape n n) × (ys ≡ filledOf shape n n xs)
-  with-steps h = simp e h
+  -- After the last sample the strip is filled.
+  pub accepted : (i : ℕ) {total : ℕ} {ys : List Float} → not fit ≡ false → i ≡ length xs → total ≡ stepSum s (length xs) i → ys ≡ filledOf s (length xs) i xs →
+      (total ≡ stepsOf s (length xs)) × (ys ≡ stripOf s xs)
+  unfolding stepsOf stripOf
+  accepted i t b d f = let h = sym e ∙ not-false fit t in (simp (h, d, b), simp (h, f, b))
 
--- ---- the answer, and what the strip holds, by the length
-pub refused : (s : Shape) (xs : List Float) → lengthFits (length xs) ≡ false → (WrongLength ≡ answerOf s (length xs)) × (xs ≡ stripOf s xs)
-unfolding answerOf stripOf
-refused s xs h = (simp h, simp h)
+  pub wrong-length : not fit ≡ true → (WrongLength ≡ answerOf s (length xs)) × (xs ≡ stripOf s xs)
+  unfolding answerOf stripOf
+  wrong-length t = let h = sym e ∙ not-true fit t in (simp h, simp h)
 
-pub accepted : (s : Shape) (xs : List Float) {total : ℕ} {ys : List Float} → lengthFits (length xs) ≡ true →
-    (total ≡ stepSum s (length xs) (length xs)) × (ys ≡ filledOf s (length xs) (length xs) xs) → (Steps total ≡ answerOf s (length xs)) × (ys ≡ stripOf s xs)
-unfolding answerOf stripOf
-accepted s xs h r = (simp (h, r .0), simp (h, r .1))
+  pub all-steps : {total : ℕ} → not fit ≡ false → total ≡ stepsOf s (length xs) → Steps total ≡ answerOf s (length xs)
+  unfolding stepsOf answerOf
+  all-steps t d = let h = sym e ∙ not-false fit t in simp (d, h)

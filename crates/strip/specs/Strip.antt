@@ -38,6 +38,10 @@ unfoldable pub stepSum : Shape → ℕ → ℕ → ℕ
 stepSum s n zero = 0
 stepSum s n (suc k) = stepSum s n k + heightOf s (sampleOf n k) .steps
 
+-- The steps of all n samples, none where that length is refused.
+unfoldable pub stepsOf : Shape → ℕ → ℕ
+stepsOf s n = cond (lengthFits n) (stepSum s n n) 0
+
 -- What is answered for a strip of n samples: the steps of all, or that its length is refused.
 unfoldable pub answerOf : Shape → ℕ → Filled
 answerOf s n = cond (lengthFits n) (Steps (stepSum s n n)) WrongLength

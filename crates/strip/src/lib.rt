@@ -2,11 +2,12 @@
 ghost use mathlib.Core.Path.{_≡_};
 ghost use Prim.Native.Nat.{_-_, _≤_};
 ghost use lib.ListN.{length};
-ghost use Rattle.strip.specs.Strip.{partOf, filledOf, stepSum, answerOf, stripOf};
+ghost use Rattle.strip.specs.Strip.{partOf, lengthFits, stepsOf, answerOf, stripOf};
 use envelope::envelope_height;
 use filter::filter_height;
 use generator::Generator;
 use generator::Shape;
+use math::from_u16;
 use settings::Envelope;
 use settings::Fade;
 use settings::Filter;
@@ -33,7 +34,7 @@ pub enum Filled {
 pub fn sample_position(i: u16, last: u16) -> f32
     ensures { λ r. ⌜ r ≡ partOf i last ⌝ }
 {
-    i as f32 / last as f32
+    i as f32 / from_u16(last)
 }
 
 // The number of the last of n samples.
@@ -44,78 +45,102 @@ fn last_of(n: usize) -> u16
     (n - 1) as u16
 }
 
-// ---- every sample of a strip whose length fits, a loop for each family: the generator is told apart once, and not at every sample
-fn fill_envelope(e: Envelope, out: &mut [f32])
-    requires { ⌜ (2 ≤ length (now out)) × (length (now out) ≤ 4096) ⌝ }
-    ensures { λ _. ⌜ now (out .exit) ≡ filledOf (Shape.Envelope e) (length (now (out .entry))) (length (now (out .entry))) (now (out .entry)) ⌝ }
+// Whether a strip may have n samples.
+pub fn fits(n: usize) -> bool
+    ensures { λ r. ⌜ r ≡ lengthFits n ⌝ }
+{
+    MIN_SAMPLES <= n && n <= MAX_SAMPLES
+}
+
+// ---- a loop for each family: the generator is told apart once, and not at every sample. A strip of another length is left as it was. Each answers the sum of the steps, which only an LFO's
+// heights take.
+pub fn fill_envelope(e: Envelope, out: &mut [f32]) -> u32
+    ensures { λ r. ⌜ (r ≡ stepsOf (Shape.Envelope e) (length (now (out .entry)))) × (now (out .exit) ≡ stripOf (Shape.Envelope e) (now (out .entry))) ⌝ }
 {
     let n = out.len();
+    if !fits(n) {
+        return 0;
+    }
     let last = last_of(n);
     let mut i: usize = 0;
     while i < n {
         out[i] = envelope_height(e, sample_position(i as u16, last)).height;
         i += 1;
     }
+    0
 }
 
-fn fill_fade(f: Fade, out: &mut [f32])
-    requires { ⌜ (2 ≤ length (now out)) × (length (now out) ≤ 4096) ⌝ }
-    ensures { λ _. ⌜ now (out .exit) ≡ filledOf (Shape.Fade f) (length (now (out .entry))) (length (now (out .entry))) (now (out .entry)) ⌝ }
+pub fn fill_fade(f: Fade, out: &mut [f32]) -> u32
+    ensures { λ r. ⌜ (r ≡ stepsOf (Shape.Fade f) (length (now (out .entry)))) × (now (out .exit) ≡ stripOf (Shape.Fade f) (now (out .entry))) ⌝ }
 {
     let n = out.len();
+    if !fits(n) {
+        return 0;
+    }
     let last = last_of(n);
     let mut i: usize = 0;
     while i < n {
         out[i] = fade_height(f, sample_position(i as u16, last)).height;
         i += 1;
     }
+    0
 }
 
-fn fill_filter(f: Filter, out: &mut [f32])
-    requires { ⌜ (2 ≤ length (now out)) × (length (now out) ≤ 4096) ⌝ }
-    ensures { λ _. ⌜ now (out .exit) ≡ filledOf (Shape.Filter f) (length (now (out .entry))) (length (now (out .entry))) (now (out .entry)) ⌝ }
+pub fn fill_filter(f: Filter, out: &mut [f32]) -> u32
+    ensures { λ r. ⌜ (r ≡ stepsOf (Shape.Filter f) (length (now (out .entry)))) × (now (out .exit) ≡ stripOf (Shape.Filter f) (now (out .entry))) ⌝ }
 {
     let n = out.len();
+    if !fits(n) {
+        return 0;
+    }
     let last = last_of(n);
     let mut i: usize = 0;
     while i < n {
         out[i] = filter_height(f, sample_position(i as u16, last)).height;
         i += 1;
     }
+    0
 }
 
-fn fill_oscillator(o: Oscillator, out: &mut [f32])
-    requires { ⌜ (2 ≤ length (now out)) × (length (now out) ≤ 4096) ⌝ }
-    ensures { λ _. ⌜ now (out .exit) ≡ filledOf (Shape.Oscillator o) (length (now (out .entry))) (length (now (out .entry))) (now (out .entry)) ⌝ }
+pub fn fill_oscillator(o: Oscillator, out: &mut [f32]) -> u32
+    ensures { λ r. ⌜ (r ≡ stepsOf (Shape.Oscillator o) (length (now (out .entry)))) × (now (out .exit) ≡ stripOf (Shape.Oscillator o) (now (out .entry))) ⌝ }
 {
     let n = out.len();
+    if !fits(n) {
+        return 0;
+    }
     let last = last_of(n);
     let mut i: usize = 0;
     while i < n {
         out[i] = oscillator_height(o, sample_position(i as u16, last)).height;
         i += 1;
     }
+    0
 }
 
-fn fill_noise(s: Noise, out: &mut [f32])
-    requires { ⌜ (2 ≤ length (now out)) × (length (now out) ≤ 4096) ⌝ }
-    ensures { λ _. ⌜ now (out .exit) ≡ filledOf (Shape.Noise s) (length (now (out .entry))) (length (now (out .entry))) (now (out .entry)) ⌝ }
+pub fn fill_noise(s: Noise, out: &mut [f32]) -> u32
+    ensures { λ r. ⌜ (r ≡ stepsOf (Shape.Noise s) (length (now (out .entry)))) × (now (out .exit) ≡ stripOf (Shape.Noise s) (now (out .entry))) ⌝ }
 {
     let n = out.len();
+    if !fits(n) {
+        return 0;
+    }
     let last = last_of(n);
     let mut i: usize = 0;
     while i < n {
         out[i] = noise_height(s, sample_position(i as u16, last)).height;
         i += 1;
     }
+    0
 }
 
-// An LFO's heights, and the sum of their steps.
-fn fill_lfo(l: Lfo, out: &mut [f32]) -> u32
-    requires { ⌜ (2 ≤ length (now out)) × (length (now out) ≤ 4096) ⌝ }
-    ensures { λ r. ⌜ (r ≡ stepSum (Shape.Lfo l) (length (now (out .entry))) (length (now (out .entry)))) × (now (out .exit) ≡ filledOf (Shape.Lfo l) (length (now (out .entry))) (length (now (out .entry))) (now (out .entry))) ⌝ }
+pub fn fill_lfo(l: Lfo, out: &mut [f32]) -> u32
+    ensures { λ r. ⌜ (r ≡ stepsOf (Shape.Lfo l) (length (now (out .entry)))) × (now (out .exit) ≡ stripOf (Shape.Lfo l) (now (out .entry))) ⌝ }
 {
     let count = out.len();
+    if !fits(count) {
+        return 0;
+    }
     let last = last_of(count);
     let mut total: u32 = 0;
     let mut i: usize = 0;
@@ -128,46 +153,25 @@ fn fill_lfo(l: Lfo, out: &mut [f32]) -> u32
     total
 }
 
-// Only an LFO's heights take steps.
 fn fill_samples(g: Generator, out: &mut [f32]) -> u32
-    requires { ⌜ (2 ≤ length (now out)) × (length (now out) ≤ 4096) ⌝ }
-    ensures { λ r. ⌜ (r ≡ stepSum (g .shape) (length (now (out .entry))) (length (now (out .entry)))) × (now (out .exit) ≡ filledOf (g .shape) (length (now (out .entry))) (length (now (out .entry))) (now (out .entry))) ⌝ }
+    ensures { λ r. ⌜ (r ≡ stepsOf (g .shape) (length (now (out .entry)))) × (now (out .exit) ≡ stripOf (g .shape) (now (out .entry))) ⌝ }
 {
     let shape = g.shape;
     match shape {
-        Shape::Envelope(e) => {
-            fill_envelope(e, out);
-            0
-        }
-        Shape::Fade(f) => {
-            fill_fade(f, out);
-            0
-        }
+        Shape::Envelope(e) => fill_envelope(e, out),
+        Shape::Fade(f) => fill_fade(f, out),
         Shape::Lfo(l) => fill_lfo(l, out),
-        Shape::Filter(f) => {
-            fill_filter(f, out);
-            0
-        }
-        Shape::Oscillator(o) => {
-            fill_oscillator(o, out);
-            0
-        }
-        Shape::Noise(s) => {
-            fill_noise(s, out);
-            0
-        }
+        Shape::Filter(f) => fill_filter(f, out),
+        Shape::Oscillator(o) => fill_oscillator(o, out),
+        Shape::Noise(s) => fill_noise(s, out),
     }
 }
 
-// Fills a strip with the heights of a curve. A strip of another length is left as it was.
+// Fills a strip with the heights of a curve.
 pub fn fill(g: Generator, out: &mut [f32]) -> Filled
     ensures { λ r. ⌜ (r ≡ answerOf (g .shape) (length (now (out .entry)))) × (now (out .exit) ≡ stripOf (g .shape) (now (out .entry))) ⌝ }
 {
-    let n = out.len();
-    if n < MIN_SAMPLES {
-        return Filled::WrongLength;
-    }
-    if MAX_SAMPLES < n {
+    if !fits(out.len()) {
         return Filled::WrongLength;
     }
     let steps = fill_samples(g, out);

@@ -1,4 +1,4 @@
--- `fill_lfo` writes every sample and answers the sum of their steps. The loop's invariant: both for the first i samples. Assumes nothing.
+-- `fill_lfo` answers `stepsOf` and leaves `stripOf`. The loop's invariant: the first i samples are written, and their steps summed. Assumes nothing.
 use mathlib.Core.Path.{_≡_, refl}
 use Prim.Native.Nat.{_-_, _≤_}
 use native.Mathlib.Nat.{le-antisymm}
@@ -8,7 +8,8 @@ use lib.ListN.{length, length-set}
 use Rattle.generator.specs.declared.Shape.the-variants.{Lfo as AnLfo}
 use Rattle.generator.specs.Heights.{heightOf}
 use Rattle.strip.specs.Strip.{written, filledOf, stepSum}
-use Rattle.strip.proofs.Filling.{at-position, steps-small, total-small, sum-next, filled-next, filled-whole}
+use Rattle.strip.proofs.Lengths.{between}
+use Rattle.strip.proofs.Filling.{at-position, steps-small, total-small, sum-next, filled-next, refused, accepted}
 use Rattle.strip.proofs.fill_lfo.Statement.{statement}
 use Rattle.strip.proofs.fill_lfo.Tie as tie
 
@@ -19,8 +20,14 @@ Inv-loop l out₀ count last total₀ i₀ out total i =
 abbrev μ-loop : tie.MeasureT-loop
 μ-loop l out₀ count last total₀ i₀ out total i = count - i
 
+fits-requires : tie.Need-fits-requires Inv-loop μ-loop
+fits-requires c κs = search needs
+
+returns : tie.Need-returns Inv-loop μ-loop
+returns c = refused (AnLfo (c .before .before .before .args .l)) _ (c .before .fits2 .ensures) (c .if1 .taken)
+
 last-of-requires : tie.Need-last-of-requires Inv-loop μ-loop
-last-of-requires c κs = search needs
+last-of-requires c κs = between _ (c .before .fits2 .ensures) (c .if1 .left)
 
 loop-holds : tie.Need-loop-holds Inv-loop μ-loop
 unfolding stepSum written
@@ -45,7 +52,7 @@ add-total : tie.Need-add-total Inv-loop μ-loop
 unfolding heightOf
 add-total c =
     let l = c .before .before .before .before in
-    let s = AnLfo (l .before .before .before .args .l) in
+    let s = AnLfo (l .before .before .before .before .before .args .l) in
     let inv = l .loop .inv in
     let w = at-position s _ _ _ (l .before .last-of .ensures) (c .before .before .sample-position .ensures) (c .before .lfo-height .ensures) in
     let h = steps-small s _ _ w in
@@ -62,7 +69,7 @@ loop-again : tie.Need-loop-again Inv-loop μ-loop
 unfolding heightOf
 loop-again c =
     let l = c .before .before .before .before in
-    let s = AnLfo (l .before .before .before .args .l) in
+    let s = AnLfo (l .before .before .before .before .before .args .l) in
     let inv = l .loop .inv in
     let w = at-position s _ _ _ (l .before .last-of .ensures) (c .before .before .sample-position .ensures) (c .before .lfo-height .ensures) in
     (simp length-set (inv .0), search needs, sum-next s _ _ w (inv .2), filled-next s _ _ w _ (inv .3))
@@ -70,10 +77,11 @@ loop-again c =
 same-length : tie.Need-same-length Inv-loop μ-loop
 same-length c = c .before .loop .inv .0
 
-returns : tie.Need-returns Inv-loop μ-loop
-returns c =
+returns-2 : tie.Need-returns-2 Inv-loop μ-loop
+returns-2 c =
+    let f = c .before .before .before in
     let inv = c .before .loop .inv in
-    filled-whole (AnLfo (c .before .before .before .before .args .l)) _ _ _ (le-antisymm (inv .1) (c .loop-test .left)) (inv .2) (inv .3)
+    accepted (AnLfo (f .before .before .before .args .l)) _ (f .before .fits2 .ensures) _ (f .if1 .left) (le-antisymm (inv .1) (c .loop-test .left)) (inv .2) (inv .3)
 
 pub fill-lfo-spec : {M : Type 1} → statement M
 fill-lfo-spec =
@@ -81,6 +89,8 @@ fill-lfo-spec =
     (tie.spec
     Inv-loop
     μ-loop
+    fits-requires
+    returns
     last-of-requires
     loop-holds
     cast-sample-position
@@ -93,4 +103,4 @@ fill-lfo-spec =
     loop-less
     loop-again
     same-length
-    returns)
+    returns-2)

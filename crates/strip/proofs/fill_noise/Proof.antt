@@ -1,13 +1,16 @@
--- `fill_noise` writes every sample. The loop's invariant: the first i of them. Assumes nothing.
+-- `fill_noise` answers `stepsOf` and leaves `stripOf`. The loop's invariant: the first i samples are written. Assumes nothing.
 use mathlib.Core.Path.{_≡_, refl}
 use Prim.Native.Nat.{_-_, _≤_}
 use native.Mathlib.Nat.{le-antisymm}
 use borrow.Author.Needs.{needs}
 use lib.ListN.{length, length-set}
+use Rattle.curve.specs.Curve.{drawnOf}
+use Rattle.simple.specs.Formula.{noiseHeightOf}
 use Rattle.generator.specs.declared.Shape.the-variants.{Noise as ANoise}
 use Rattle.generator.specs.Heights.{heightOf}
 use Rattle.strip.specs.Strip.{written, filledOf}
-use Rattle.strip.proofs.Filling.{at-position, filled-next, filled-end}
+use Rattle.strip.proofs.Lengths.{between}
+use Rattle.strip.proofs.Filling.{at-position, filled-next, stepless, refused, accepted}
 use Rattle.strip.proofs.fill_noise.Statement.{statement}
 use Rattle.strip.proofs.fill_noise.Tie as tie
 
@@ -17,8 +20,14 @@ Inv-loop s out₀ n last i₀ out i = (length out ≡ length out₀) × (i ≤ n
 abbrev μ-loop : tie.MeasureT-loop
 μ-loop s out₀ n last i₀ out i = n - i
 
+fits-requires : tie.Need-fits-requires Inv-loop μ-loop
+fits-requires c κs = search needs
+
+returns : tie.Need-returns Inv-loop μ-loop
+returns c = refused (ANoise (c .before .before .before .args .s)) _ (c .before .fits2 .ensures) (c .if1 .taken)
+
 last-of-requires : tie.Need-last-of-requires Inv-loop μ-loop
-last-of-requires c κs = search needs
+last-of-requires c κs = between _ (c .before .fits2 .ensures) (c .if1 .left)
 
 loop-holds : tie.Need-loop-holds Inv-loop μ-loop
 unfolding written
@@ -49,15 +58,20 @@ loop-again : tie.Need-loop-again Inv-loop μ-loop
 unfolding heightOf
 loop-again c =
     let l = c .before .before .before in
-    let s = ANoise (l .before .before .before .args .s) in
+    let s = ANoise (l .before .before .before .before .before .args .s) in
     let w = at-position s _ _ _ (l .before .last-of .ensures) (c .before .sample-position .ensures) (c .noise-height .ensures) in
     (simp length-set (l .loop .inv .0), search needs, filled-next s _ _ w _ (l .loop .inv .2))
 
 same-length : tie.Need-same-length Inv-loop μ-loop
 same-length c = c .before .loop .inv .0
 
-returns : tie.Need-returns Inv-loop μ-loop
-returns c = let inv = c .before .loop .inv in filled-end (ANoise (c .before .before .before .before .args .s)) _ _ _ (le-antisymm (inv .1) (c .loop-test .left)) (inv .2)
+returns-2 : tie.Need-returns-2 Inv-loop μ-loop
+unfolding heightOf noiseHeightOf drawnOf
+returns-2 c =
+    let f = c .before .before .before in
+    let s = ANoise (f .before .before .before .args .s) in
+    let inv = c .before .loop .inv in
+    accepted s _ (f .before .fits2 .ensures) _ (f .if1 .left) (le-antisymm (inv .1) (c .loop-test .left)) (stepless s (λ t. refl) _ _) (inv .2)
 
 pub fill-noise-spec : {M : Type 1} → statement M
 fill-noise-spec =
@@ -65,6 +79,8 @@ fill-noise-spec =
     (tie.spec
     Inv-loop
     μ-loop
+    fits-requires
+    returns
     last-of-requires
     loop-holds
     cast-sample-position
@@ -76,4 +92,4 @@ fill-noise-spec =
     loop-less
     loop-again
     same-length
-    returns)
+    returns-2)

@@ -1,11 +1,4 @@
--- `fill_samples` fills by the family of its generator: only an LFO's heights take steps. Assumes nothing.
-use mathlib.Core.Path.{refl}
-use Rattle.curve.specs.Curve.{drawnOf}
-use Rattle.envelope.specs.Formula as envelope
-use Rattle.simple.specs.Formula.{fadeHeightOf, oscillatorHeightOf, noiseHeightOf}
-use Rattle.filter.specs.Formula as filter
-use Rattle.generator.specs.Heights.{heightOf}
-use Rattle.strip.proofs.Filling.{without-steps, with-steps}
+-- `fill_samples` fills by the family of its generator. Assumes nothing.
 use borrow.Author.Needs.{needs}
 use Rattle.strip.proofs.fill_samples.Statement.{statement}
 use Rattle.strip.proofs.fill_samples.Tie as tie
@@ -50,42 +43,37 @@ same-length : tie.Need-same-length
 same-length c = search needs
 
 returns : tie.Need-returns
-unfolding heightOf envelope.heightOf drawnOf
-returns c = without-steps _ _ _ (c .before .before .before .before .before .shape .given .1) (λ t. refl) (c .before .before .fill-envelope .ensures)
+returns c = simp (c .before .before .before .before .before .shape .given .1) (c .before .before .fill-envelope .ensures)
 
 same-length-2 : tie.Need-same-length-2
 same-length-2 c = search needs
 
 returns-2 : tie.Need-returns-2
-unfolding heightOf fadeHeightOf drawnOf
-returns-2 c = without-steps _ _ _ (c .before .before .before .before .before .shape2 .given .1) (λ t. refl) (c .before .before .fill-fade .ensures)
+returns-2 c = simp (c .before .before .before .before .before .shape2 .given .1) (c .before .before .fill-fade .ensures)
 
 same-length-3 : tie.Need-same-length-3
 same-length-3 c = search needs
 
 returns-3 : tie.Need-returns-3
-returns-3 c = with-steps _ _ _ (c .before .before .before .before .before .shape3 .given .1) (c .before .before .fill-lfo .ensures)
+returns-3 c = simp (c .before .before .before .before .before .shape3 .given .1) (c .before .before .fill-lfo .ensures)
 
 same-length-4 : tie.Need-same-length-4
 same-length-4 c = search needs
 
 returns-4 : tie.Need-returns-4
-unfolding heightOf filter.heightOf drawnOf
-returns-4 c = without-steps _ _ _ (c .before .before .before .before .before .shape4 .given .1) (λ t. refl) (c .before .before .fill-filter .ensures)
+returns-4 c = simp (c .before .before .before .before .before .shape4 .given .1) (c .before .before .fill-filter .ensures)
 
 same-length-5 : tie.Need-same-length-5
 same-length-5 c = search needs
 
 returns-5 : tie.Need-returns-5
-unfolding heightOf oscillatorHeightOf drawnOf
-returns-5 c = without-steps _ _ _ (c .before .before .before .before .before .shape5 .given .1) (λ t. refl) (c .before .before .fill-oscillator .ensures)
+returns-5 c = simp (c .before .before .before .before .before .shape5 .given .1) (c .before .before .fill-oscillator .ensures)
 
 same-length-6 : tie.Need-same-length-6
 same-length-6 c = search needs
 
 returns-6 : tie.Need-returns-6
-unfolding heightOf noiseHeightOf drawnOf
-returns-6 c = without-steps _ _ _ (c .before .before .before .before .before .shape6 .given .1) (λ t. refl) (c .before .before .fill-noise .ensures)
+returns-6 c = simp (c .before .before .before .before .before .shape6 .given .1) (c .before .before .fill-noise .ensures)
 
 pub fill-samples-spec : {M : Type 1} → statement M
 fill-samples-spec =

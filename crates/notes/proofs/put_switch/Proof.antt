@@ -1,10 +1,10 @@
 -- `put_switch` writes `switchNote`. Assumes nothing.
 use mathlib.Core.Path.{refl}
 use borrow.Author.Tests.{ne-eqb}
-use Rattle.dials.specs.Notes.{switchNote}
+use Rattle.notes.specs.Notes.{switchNote}
 use borrow.Author.Needs.{needs}
-use Rattle.dials.proofs.put_switch.Statement.{statement}
-use Rattle.dials.proofs.put_switch.Tie as tie
+use Rattle.notes.proofs.put_switch.Statement.{statement}
+use Rattle.notes.proofs.put_switch.Tie as tie
 
 slice-aggregate-put : tie.Need-slice-aggregate-put
 slice-aggregate-put c = refl

@@ -1,10 +1,10 @@
 -- `put_poles` writes `polesNote`: an arm for each byte that has a name, and one for the others. Assumes nothing.
 use mathlib.Core.Path.{refl}
 use borrow.Author.Tests.{ne-eqb}
-use Rattle.dials.specs.Notes.{polesNote}
+use Rattle.notes.specs.Notes.{polesNote}
 use borrow.Author.Needs.{needs}
-use Rattle.dials.proofs.put_poles.Statement.{statement}
-use Rattle.dials.proofs.put_poles.Tie as tie
+use Rattle.notes.proofs.put_poles.Statement.{statement}
+use Rattle.notes.proofs.put_poles.Tie as tie
 
 slice-aggregate-put : tie.Need-slice-aggregate-put
 slice-aggregate-put c = refl

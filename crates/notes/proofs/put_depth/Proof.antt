@@ -1,10 +1,10 @@
 -- `put_depth` writes `depthNote`: by the two tests on its source. Assumes nothing.
 use mathlib.Core.Path.{refl}
 use borrow.Author.Tests.{ne-eqb, le-leb, lt-leb}
-use Rattle.dials.specs.Notes.{depthNote}
+use Rattle.notes.specs.Notes.{depthNote}
 use borrow.Author.Needs.{needs}
-use Rattle.dials.proofs.put_depth.Statement.{statement}
-use Rattle.dials.proofs.put_depth.Tie as tie
+use Rattle.notes.proofs.put_depth.Statement.{statement}
+use Rattle.notes.proofs.put_depth.Tie as tie
 
 slice-aggregate-put : tie.Need-slice-aggregate-put
 slice-aggregate-put c = refl

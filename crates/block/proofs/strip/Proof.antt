@@ -1,0 +1,74 @@
+-- `strip` answers as `stripAnswer` says and leaves what `stripAfter` says: a return for each refusal and one for the strip that is filled. Assumes nothing.
+use mathlib.Core.Path.{sym, _∙_}
+use borrow.Author.Tests.{eq-eqb, ne-eqb, not-true}
+use Rattle.generator.specs.Generator.{generatorOf}
+use Rattle.strip.specs.Strip.{answerOf, stripOf}
+use Rattle.strip.proofs.Filling.{all-steps}
+use Rattle.block.specs.Refusals.{chosenBy, chosenOf, filledAnswer, stripAnswer, stripAfter}
+use borrow.Author.Needs.{needs}
+use Rattle.block.proofs.strip.Statement.{statement}
+use Rattle.block.proofs.strip.Tie as tie
+
+returns : tie.Need-returns
+unfolding chosenOf chosenBy stripAnswer stripAfter
+returns c = let e = ne-eqb _ _ (c .if1 .taken) in (simp e, simp e)
+
+code-from-requires : tie.Need-code-from-requires
+code-from-requires c κs = search needs
+
+enum-known-read : tie.Need-enum-known-read
+enum-known-read c = search needs
+
+fits-requires : tie.Need-fits-requires
+fits-requires c κs = search needs
+
+returns-2 : tie.Need-returns-2
+unfolding chosenOf chosenBy filledAnswer stripAnswer stripAfter generatorOf answerOf stripOf
+returns-2 c =
+    let r = c .before .before .before in
+    let e = eq-eqb _ _ (r .before .before .before .if1 .left) in
+    let code = sym (r .before .before .code-from .ensures) in
+    let length = sym (c .before .fits2 .ensures) ∙ not-true _ (c .if2 .taken) in
+    (simp (e, code, r .read .given .1, length), simp (e, code, r .read .given .1, length))
+
+strip-at-requires : tie.Need-strip-at-requires
+strip-at-requires c κs = search needs
+
+enum-told : tie.Need-enum-told
+enum-told c = search needs
+
+same-length : tie.Need-same-length
+same-length c = search needs
+
+returns-3 : tie.Need-returns-3
+unfolding chosenOf chosenBy filledAnswer stripAnswer stripAfter generatorOf
+returns-3 c =
+    let f = c .before .before .before .before in
+    let r = f .before .before .before in
+    let start = r .before .before .before .before .before .before in
+    let filled = c .before .before .strip-at .ensures in
+    let e = eq-eqb _ _ (r .before .before .before .if1 .left) in
+    let code = sym (r .before .before .code-from .ensures) in
+    (simp (e, code, r .read .given .1, sym (all-steps _ (start .args .out .now) (f .before .fits2 .ensures) (f .if2 .left) (filled .0))), simp (e, code, r .read .given .1, filled .1))
+
+returns-4 : tie.Need-returns-4
+unfolding chosenOf chosenBy stripAnswer stripAfter
+returns-4 c =
+    let e = eq-eqb _ _ (c .before .before .before .if1 .left) in
+    let code = sym (c .before .before .code-from .ensures) in
+    (simp (e, code, c .enum-told .given .1), simp (e, code, c .enum-told .given .1))
+
+pub strip-spec : {M : Type 1} → statement M
+strip-spec =
+    tie.close
+    (tie.spec
+    returns
+    code-from-requires
+    enum-known-read
+    fits-requires
+    returns-2
+    strip-at-requires
+    enum-told
+    same-length
+    returns-3
+    returns-4)

@@ -1,0 +1,2 @@
+-- What a byte stands for.
+pub mod Notes
