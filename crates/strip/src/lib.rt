@@ -1,7 +1,10 @@
 // A strip: a lent slice of heights, from the left edge of a curve to its right edge.
 ghost use mathlib.Core.Path.{_≡_};
+ghost use mathlib.Core.Bool.{true, false};
 ghost use Prim.Native.Nat.{_-_, _≤_};
 ghost use lib.ListN.{length};
+ghost use lib.Ieee.{le};
+ghost use Rattle.exact.specs.Binary32.{zero₃₂};
 ghost use Rattle.strip.specs.Strip.{partOf, lengthFits, stepsOf, answerOf, stripOf};
 use envelope::envelope_height;
 use filter::filter_height;
@@ -17,7 +20,8 @@ use settings::Oscillator;
 use simple::fade_height;
 use simple::noise_height;
 use simple::oscillator_height;
-use walk::lfo_height;
+use walk::slewed_height;
+use walk::unslewed_height;
 
 // The shortest strip and the longest.
 pub const MIN_SAMPLES: usize = 2;
@@ -134,7 +138,26 @@ pub fn fill_noise(s: Noise, out: &mut [f32]) -> u32
     0
 }
 
-pub fn fill_lfo(l: Lfo, out: &mut [f32]) -> u32
+// An LFO without slew, and one with: that too is told apart once.
+fn fill_unslewed(l: Lfo, out: &mut [f32]) -> u32
+    requires { ⌜ le (l .slew) zero₃₂ ≡ true ⌝ }
+    ensures { λ r. ⌜ (r ≡ stepsOf (Shape.Lfo l) (length (now (out .entry)))) × (now (out .exit) ≡ stripOf (Shape.Lfo l) (now (out .entry))) ⌝ }
+{
+    let n = out.len();
+    if !fits(n) {
+        return 0;
+    }
+    let last = last_of(n);
+    let mut i: usize = 0;
+    while i < n {
+        out[i] = unslewed_height(l, sample_position(i as u16, last)).height;
+        i += 1;
+    }
+    0
+}
+
+fn fill_slewed(l: Lfo, out: &mut [f32]) -> u32
+    requires { ⌜ le (l .slew) zero₃₂ ≡ false ⌝ }
     ensures { λ r. ⌜ (r ≡ stepsOf (Shape.Lfo l) (length (now (out .entry)))) × (now (out .exit) ≡ stripOf (Shape.Lfo l) (now (out .entry))) ⌝ }
 {
     let count = out.len();
@@ -145,12 +168,21 @@ pub fn fill_lfo(l: Lfo, out: &mut [f32]) -> u32
     let mut total: u32 = 0;
     let mut i: usize = 0;
     while i < count {
-        let height = lfo_height(l, sample_position(i as u16, last));
+        let height = slewed_height(l, sample_position(i as u16, last));
         out[i] = height.height;
         total += height.steps;
         i += 1;
     }
     total
+}
+
+pub fn fill_lfo(l: Lfo, out: &mut [f32]) -> u32
+    ensures { λ r. ⌜ (r ≡ stepsOf (Shape.Lfo l) (length (now (out .entry)))) × (now (out .exit) ≡ stripOf (Shape.Lfo l) (now (out .entry))) ⌝ }
+{
+    if l.slew <= 0.0 {
+        return fill_unslewed(l, out);
+    }
+    fill_slewed(l, out)
 }
 
 fn fill_samples(g: Generator, out: &mut [f32]) -> u32

@@ -49,6 +49,13 @@ fullSteps phase = fullFrom phase 65534 0
 unfoldable pub walkedOf : Lfo → Float → Height
 walkedOf l phase = record { height = unitOf (cutAfter (l .shape) (limitOf (l .slew)) phase (fullSteps phase)); steps = suc (fullSteps phase) }
 
--- The height of an LFO: at slew 0 the shape itself, with no steps.
+-- The height of an LFO without slew, the shape itself, and of one with slew.
+abbrev pub unslewedOf : Lfo → Float → Height
+unslewedOf l t = drawnOf (shapeAtOf (l .shape) (positionOf t ⊗ l .turns))
+
+abbrev pub slewedOf : Lfo → Float → Height
+slewedOf l t = walkedOf l (positionOf t ⊗ l .turns)
+
+-- The height of an LFO. One that is not slewed has no steps.
 unfoldable pub lfoHeightOf : Lfo → Float → Height
-lfoHeightOf l t = cond (le (l .slew) zero₃₂) (drawnOf (shapeAtOf (l .shape) (positionOf t ⊗ l .turns))) (walkedOf l (positionOf t ⊗ l .turns))
+lfoHeightOf l t = cond (le (l .slew) zero₃₂) (unslewedOf l t) (slewedOf l t)

@@ -1,6 +1,6 @@
 // The slew walk of an LFO.
 ghost use mathlib.Core.Path.{_≡_};
-ghost use Rattle.walk.specs.Formula.{placeOf, movedOf, walkedOf, lfoHeightOf};
+ghost use Rattle.walk.specs.Formula.{placeOf, movedOf, walkedOf, unslewedOf, slewedOf, lfoHeightOf};
 use curve::Height;
 use curve::drawn;
 use curve::position;
@@ -62,14 +62,27 @@ fn walked(lfo: Lfo, phase: f32) -> Height
     }
 }
 
-// The height of an LFO. One that is not slewed has no steps.
+// The height of an LFO without slew: the shape itself, with no steps.
+pub fn unslewed_height(lfo: Lfo, t: f32) -> Height
+    ensures { λ r. ⌜ r ≡ unslewedOf lfo t ⌝ }
+{
+    let shape = lfo.shape;
+    drawn(shape_at(shape, position(t) * lfo.turns))
+}
+
+// The height of an LFO with slew.
+pub fn slewed_height(lfo: Lfo, t: f32) -> Height
+    ensures { λ r. ⌜ r ≡ slewedOf lfo t ⌝ }
+{
+    walked(lfo, position(t) * lfo.turns)
+}
+
+// The height of an LFO.
 pub fn lfo_height(lfo: Lfo, t: f32) -> Height
     ensures { λ r. ⌜ r ≡ lfoHeightOf lfo t ⌝ }
 {
-    let phase = position(t) * lfo.turns;
     if lfo.slew <= 0.0 {
-        let shape = lfo.shape;
-        return drawn(shape_at(shape, phase));
+        return unslewed_height(lfo, t);
     }
-    walked(lfo, phase)
+    slewed_height(lfo, t)
 }

@@ -4,25 +4,19 @@ use borrow.Author.Needs.{needs}
 use Rattle.walk.proofs.lfo_height.Statement.{statement}
 use Rattle.walk.proofs.lfo_height.Tie as tie
 
-position-requires : tie.Need-position-requires
-position-requires c κs = search needs
-
-shape-at-requires : tie.Need-shape-at-requires
-shape-at-requires c κs = search needs
-
-drawn-requires : tie.Need-drawn-requires
-drawn-requires c κs = search needs
+unslewed-height-requires : tie.Need-unslewed-height-requires
+unslewed-height-requires c κs = search needs
 
 returns : tie.Need-returns
 unfolding lfoHeightOf
-returns c = simp (c .before .before .if1 .taken, c .drawn .ensures, c .before .shape-at .ensures, c .before .before .before .before .before .position .ensures)
+returns c = simp (c .before .if1 .taken, c .unslewed-height .ensures)
 
-walked-requires : tie.Need-walked-requires
-walked-requires c κs = search needs
+slewed-height-requires : tie.Need-slewed-height-requires
+slewed-height-requires c κs = search needs
 
 returns-2 : tie.Need-returns-2
 unfolding lfoHeightOf
-returns-2 c = simp (c .before .if1 .left, c .walked .ensures, c .before .before .before .before .position .ensures)
+returns-2 c = simp (c .before .if1 .left, c .slewed-height .ensures)
 
 pub lfo-height-spec : {M : Type 1} → statement M
-lfo-height-spec = tie.close (tie.spec position-requires shape-at-requires drawn-requires returns walked-requires returns-2)
+lfo-height-spec = tie.close (tie.spec unslewed-height-requires returns slewed-height-requires returns-2)

@@ -1,17 +1,17 @@
--- `fill_lfo` answers `stepsOf` and leaves `stripOf`. The loop's invariant: the first i samples are written, and their steps summed. Assumes nothing.
-use mathlib.Core.Path.{_≡_, refl}
+-- `fill_slewed` answers `stepsOf` and leaves `stripOf`. The loop's invariant: the first i samples are written, and their steps summed. Assumes nothing.
+use mathlib.Core.Path.{_≡_, refl, _∙_}
 use Prim.Native.Nat.{_-_, _≤_}
 use native.Mathlib.Nat.{le-antisymm}
 use native.Mathlib.Omega.{arith}
 use borrow.Author.Needs.{needs}
 use lib.ListN.{length, length-set}
 use Rattle.generator.specs.declared.Shape.the-variants.{Lfo as AnLfo}
-use Rattle.generator.specs.Heights.{heightOf}
 use Rattle.strip.specs.Strip.{written, filledOf, stepSum}
 use Rattle.strip.proofs.Lengths.{between}
+use Rattle.strip.proofs.Slew.{with-slew}
 use Rattle.strip.proofs.Filling.{at-position, steps-small, total-small, sum-next, filled-next, refused, accepted}
-use Rattle.strip.proofs.fill_lfo.Statement.{statement}
-use Rattle.strip.proofs.fill_lfo.Tie as tie
+use Rattle.strip.proofs.fill_slewed.Statement.{statement}
+use Rattle.strip.proofs.fill_slewed.Tie as tie
 
 abbrev Inv-loop : tie.InvT-loop
 Inv-loop l out₀ count last total₀ i₀ out total i =
@@ -39,8 +39,8 @@ cast-sample-position c = search needs
 sample-position-requires : tie.Need-sample-position-requires Inv-loop μ-loop
 sample-position-requires c κs = search needs
 
-lfo-height-requires : tie.Need-lfo-height-requires Inv-loop μ-loop
-lfo-height-requires c κs = search needs
+slewed-height-requires : tie.Need-slewed-height-requires Inv-loop μ-loop
+slewed-height-requires c κs = search needs
 
 mul-out : tie.Need-mul-out Inv-loop μ-loop
 mul-out c = search needs
@@ -49,12 +49,11 @@ slice-write-out : tie.Need-slice-write-out Inv-loop μ-loop
 slice-write-out c = search needs
 
 add-total : tie.Need-add-total Inv-loop μ-loop
-unfolding heightOf
 add-total c =
     let l = c .before .before .before .before in
     let s = AnLfo (l .before .before .before .before .before .args .l) in
     let inv = l .loop .inv in
-    let w = at-position s _ _ _ (l .before .last-of .ensures) (c .before .before .sample-position .ensures) (c .before .lfo-height .ensures) in
+    let w = at-position s _ _ _ (l .before .last-of .ensures) (c .before .before .sample-position .ensures) (c .before .slewed-height .ensures ∙ with-slew _ _ (l .before .before .before .before .before .pre)) in
     let h = steps-small s _ _ w in
     let k = total-small s _ _ (inv .2) in
     omega arith
@@ -66,12 +65,11 @@ loop-less : tie.Need-loop-less Inv-loop μ-loop
 loop-less c = search needs
 
 loop-again : tie.Need-loop-again Inv-loop μ-loop
-unfolding heightOf
 loop-again c =
     let l = c .before .before .before .before in
     let s = AnLfo (l .before .before .before .before .before .args .l) in
     let inv = l .loop .inv in
-    let w = at-position s _ _ _ (l .before .last-of .ensures) (c .before .before .sample-position .ensures) (c .before .lfo-height .ensures) in
+    let w = at-position s _ _ _ (l .before .last-of .ensures) (c .before .before .sample-position .ensures) (c .before .slewed-height .ensures ∙ with-slew _ _ (l .before .before .before .before .before .pre)) in
     (simp length-set (inv .0), search needs, sum-next s _ _ w (inv .2), filled-next s _ _ w _ (inv .3))
 
 same-length : tie.Need-same-length Inv-loop μ-loop
@@ -83,8 +81,8 @@ returns-2 c =
     let inv = c .before .loop .inv in
     accepted (AnLfo (f .before .before .before .args .l)) _ (f .before .fits2 .ensures) _ (f .if1 .left) (le-antisymm (inv .1) (c .loop-test .left)) (inv .2) (inv .3)
 
-pub fill-lfo-spec : {M : Type 1} → statement M
-fill-lfo-spec =
+pub fill-slewed-spec : {M : Type 1} → statement M
+fill-slewed-spec =
     tie.close
     (tie.spec
     Inv-loop
@@ -95,7 +93,7 @@ fill-lfo-spec =
     loop-holds
     cast-sample-position
     sample-position-requires
-    lfo-height-requires
+    slewed-height-requires
     mul-out
     slice-write-out
     add-total

@@ -1,0 +1,23 @@
+-- AN LFO'S HEIGHT BY ITS SLEW. Assumes nothing.
+use mathlib.Core.Path.{_≡_}
+use mathlib.Core.Bool.{true, false}
+use lib.Ieee.{Float, le}
+use Rattle.exact.specs.Binary32.{zero₃₂}
+use Rattle.curve.specs.Curve.{drawnOf}
+use Rattle.settings.specs.declared.Lfo.{Lfo}
+use Rattle.walk.specs.Formula.{unslewedOf, slewedOf, lfoHeightOf}
+use Rattle.generator.specs.declared.Shape.the-variants.{Lfo as AnLfo}
+use Rattle.generator.specs.Heights.{heightOf}
+
+module _ (l : Lfo) (t : Float) where
+  pub without-slew : le (l .slew) zero₃₂ ≡ true → unslewedOf l t ≡ heightOf (AnLfo l) t
+  unfolding heightOf lfoHeightOf
+  without-slew h = simp h
+
+  pub with-slew : le (l .slew) zero₃₂ ≡ false → slewedOf l t ≡ heightOf (AnLfo l) t
+  unfolding heightOf lfoHeightOf
+  with-slew h = simp h
+
+  pub without-steps : le (l .slew) zero₃₂ ≡ true → heightOf (AnLfo l) t .steps ≡ 0
+  unfolding heightOf lfoHeightOf drawnOf
+  without-steps h = simp h

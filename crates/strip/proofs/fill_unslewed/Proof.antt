@@ -1,0 +1,91 @@
+-- `fill_unslewed` answers `stepsOf` and leaves `stripOf`. The loop's invariant: the first i samples are written. Assumes nothing.
+use mathlib.Core.Path.{_≡_, refl, _∙_}
+use Prim.Native.Nat.{_-_, _≤_}
+use native.Mathlib.Nat.{le-antisymm}
+use borrow.Author.Needs.{needs}
+use lib.ListN.{length, length-set}
+use Rattle.generator.specs.declared.Shape.the-variants.{Lfo as AnLfo}
+use Rattle.strip.specs.Strip.{written, filledOf}
+use Rattle.strip.proofs.Lengths.{between}
+use Rattle.strip.proofs.Slew.{without-slew, without-steps}
+use Rattle.strip.proofs.Filling.{at-position, filled-next, stepless, refused, accepted}
+use Rattle.strip.proofs.fill_unslewed.Statement.{statement}
+use Rattle.strip.proofs.fill_unslewed.Tie as tie
+
+abbrev Inv-loop : tie.InvT-loop
+Inv-loop l out₀ n last i₀ out i = (length out ≡ length out₀) × (i ≤ n) × (out ≡ filledOf (AnLfo l) n i out₀)
+
+abbrev μ-loop : tie.MeasureT-loop
+μ-loop l out₀ n last i₀ out i = n - i
+
+fits-requires : tie.Need-fits-requires Inv-loop μ-loop
+fits-requires c κs = search needs
+
+returns : tie.Need-returns Inv-loop μ-loop
+returns c = refused (AnLfo (c .before .before .before .args .l)) _ (c .before .fits2 .ensures) (c .if1 .taken)
+
+last-of-requires : tie.Need-last-of-requires Inv-loop μ-loop
+last-of-requires c κs = between _ (c .before .fits2 .ensures) (c .if1 .left)
+
+loop-holds : tie.Need-loop-holds Inv-loop μ-loop
+unfolding written
+loop-holds c = (search needs, search needs, refl)
+
+cast-sample-position : tie.Need-cast-sample-position Inv-loop μ-loop
+cast-sample-position c = search needs
+
+sample-position-requires : tie.Need-sample-position-requires Inv-loop μ-loop
+sample-position-requires c κs = search needs
+
+unslewed-height-requires : tie.Need-unslewed-height-requires Inv-loop μ-loop
+unslewed-height-requires c κs = search needs
+
+mul-out : tie.Need-mul-out Inv-loop μ-loop
+mul-out c = search needs
+
+slice-write-out : tie.Need-slice-write-out Inv-loop μ-loop
+slice-write-out c = search needs
+
+add-i : tie.Need-add-i Inv-loop μ-loop
+add-i c = search needs
+
+loop-less : tie.Need-loop-less Inv-loop μ-loop
+loop-less c = search needs
+
+loop-again : tie.Need-loop-again Inv-loop μ-loop
+loop-again c =
+    let l = c .before .before .before in
+    let s = AnLfo (l .before .before .before .before .before .args .l) in
+    let w = at-position s _ _ _ (l .before .last-of .ensures) (c .before .sample-position .ensures) (c .unslewed-height .ensures ∙ without-slew _ _ (l .before .before .before .before .before .pre)) in
+    (simp length-set (l .loop .inv .0), search needs, filled-next s _ _ w _ (l .loop .inv .2))
+
+same-length : tie.Need-same-length Inv-loop μ-loop
+same-length c = c .before .loop .inv .0
+
+returns-2 : tie.Need-returns-2 Inv-loop μ-loop
+returns-2 c =
+    let f = c .before .before .before in
+    let s = AnLfo (f .before .before .before .args .l) in
+    let inv = c .before .loop .inv in
+    accepted s _ (f .before .fits2 .ensures) _ (f .if1 .left) (le-antisymm (inv .1) (c .loop-test .left)) (stepless s (λ t. without-steps _ t (f .before .before .before .pre)) _ _) (inv .2)
+
+pub fill-unslewed-spec : {M : Type 1} → statement M
+fill-unslewed-spec =
+    tie.close
+    (tie.spec
+    Inv-loop
+    μ-loop
+    fits-requires
+    returns
+    last-of-requires
+    loop-holds
+    cast-sample-position
+    sample-position-requires
+    unslewed-height-requires
+    mul-out
+    slice-write-out
+    add-i
+    loop-less
+    loop-again
+    same-length
+    returns-2)
