@@ -1,5 +1,5 @@
-//! Times the static library and the unchanged reference side by side, doing the same work, and prints the ratios as a table. For a single height
-//! both read the block; for a strip the reference builds its generator once and samples it at the strip's positions.
+//! Times the static library and the unchanged reference side by side, doing the same work, and prints the ratios as a table; then how a strip's
+//! cost grows. For a single height both read the block; for a strip the reference builds its generator once and samples it at the strip's positions.
 
 use crate::answers::{Taps, block, build};
 use crate::juvrada::{self, BLOCK};
@@ -167,17 +167,34 @@ fn train(used: u32) -> (f64, f64) {
     heights(ours, theirs)
 }
 
-/// A row: the ratio for a single height and for the strips, and what a sample of the longest strip takes us.
-fn print_row(name: &str, code: usize, program: &Program) {
-    let ratio = |(ours, theirs): (f64, f64)| format!("{:.2}", ours / theirs);
-    let mut cells = vec![ratio(single(code, program))];
+/// A row: the ratio for a single height and for the strips, and what a sample of the longest strip takes us. The largest ratio is the answer.
+fn print_row(name: &str, code: usize, program: &Program) -> f64 {
+    let (ours, theirs) = single(code, program);
+    let mut ratios = vec![ours / theirs];
     let mut sample = 0.0;
     for n in LENGTHS {
-        let best = strip(code, program, n);
-        cells.push(ratio(best));
-        sample = best.0 / n as f64 * 1e9;
+        let (ours, theirs) = strip(code, program, n);
+        ratios.push(ours / theirs);
+        sample = ours / n as f64 * 1e9;
     }
+    let cells: Vec<String> = ratios.iter().map(|ratio| format!("{ratio:.2}")).collect();
     println!("| {name} | {} | {sample:.1} |", cells.join(" | "));
+    ratios.into_iter().fold(0.0, f64::max)
+}
+
+/// How our strip's cost grows: a row for each length, with its steps, and the time of a step, or of a sample where there are none.
+fn print_growth(name: &str, program: &Program) {
+    for n in LENGTHS {
+        let mut out = vec![0.0; n];
+        let mut steps = 0;
+        let mut ours = || {
+            let out = black_box(&mut out);
+            steps = unsafe { juvrada::juvrada_strip(program.0.as_ptr(), BLOCK, 3, out.as_mut_ptr(), n) }.steps;
+        };
+        let (best, _) = race(&mut ours, || ());
+        let parts = if steps == 0 { n } else { steps as usize };
+        println!("| {name} | {n} | {steps} | {:.2} | {:.2} |", best * 1e6, best * 1e9 / parts as f64);
+    }
 }
 
 pub fn run() {
@@ -203,14 +220,15 @@ pub fn run() {
     println!();
     println!("| Curve | One height | Strip of 2 | of 64 | of 512 | of 4,096 | Ours, ns a sample of 4,096 |");
     println!("|---|---|---|---|---|---|---|");
+    let mut largest: f64 = 0.0;
     for (code, name) in CODES.iter().enumerate() {
-        print_row(&format!("{code}: {name}"), code, &program);
+        largest = largest.max(print_row(&format!("{code}: {name}"), code, &program));
     }
     for slew in [0, SLEW] {
         for (shape, name) in SHAPES.iter().enumerate() {
             program.0[2] = shape as u8;
             program.0[6] = slew;
-            print_row(&format!("3: LFO 1, {name}, slew {slew}"), 3, &program);
+            largest = largest.max(print_row(&format!("3: LFO 1, {name}, slew {slew}"), 3, &program));
         }
     }
     println!();
@@ -219,5 +237,16 @@ pub fn run() {
     for used in [1, 4] {
         let (ours, theirs) = train(used);
         println!("| {used} used | {:.2} |", ours / theirs);
+        largest = largest.max(ours / theirs);
+    }
+    println!();
+    println!("The largest ratio: {largest:.2}.");
+    println!();
+    println!("| LFO 1 | Samples | Steps | Microseconds | Nanoseconds a step (a sample where there are none) |");
+    println!("|---|---|---|---|---|");
+    for (shape, slew) in [(0, 0), (0, 1), (0, 255), (2, SLEW), (5, SLEW)] {
+        program.0[2] = shape as u8;
+        program.0[6] = slew;
+        print_growth(&format!("{}, slew {slew}", SHAPES[shape]), &program);
     }
 }

@@ -3,7 +3,6 @@
 use mathlib.Core.Path.{_≡_, refl}
 use mathlib.Core.List.{List}
 use Prim.Native.Nat.{ℕ}
-use borrow.Author.Tests.{eq-eqb}
 use lib.ListN.{length}
 use Rattle.block.specs.declared.Code.{Code}
 use Rattle.block.specs.declared.Code.the-variants.{VcaEnvelope, VcfEnvelope, ModEnvelope, LfoOne, LfoTwo, LfoOneUnipolar, LfoTwoUnipolar, FadeOne, FadeTwo, LowPass, HighPass, OscillatorOne, OscillatorTwo, Noise}

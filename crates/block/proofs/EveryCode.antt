@@ -1,7 +1,7 @@
 -- WHAT IS PROMISED OF EVERY BLOCK'S HEIGHTS, by its bytes: whatever the code, the bytes and the f32 t, the height is a number from 0 to 1, no further from the exact height than the code's bound,
 -- and its steps are the walk's where the slew byte is not 0, and otherwise 0. A slew is 0 just where its byte is. Assumes nothing.
 use mathlib.Core.Path.{_≡_, refl}
-use mathlib.Core.Bool.{true, false, not}
+use mathlib.Core.Bool.{true, false}
 use Prim.Native.Nat.{ℕ, zero, suc, _<_}
 use native.Mathlib.Omega.{arith}
 use lib.Dec.{T, eqb}
@@ -9,7 +9,6 @@ use lib.Ieee.{Float, binary32, ofBits, ofInt, fits, div, le}
 use lib.Ieee.Bits.{is-false}
 use borrow.Author.Tests.{ne-eqb}
 use Rattle.exact.specs.Binary32.{zero₃₂}
-use Rattle.curve.specs.declared.Height.{Height}
 use Rattle.settings.specs.Settings.{byteOf, lfoOf}
 use Rattle.walk.proofs.Steps.{slew-above}
 use Rattle.generator.specs.Heights.{heightOf, slewed, Promised}

@@ -2,7 +2,6 @@
 use mathlib.Core.Path.{_≡_, refl}
 use Prim.Native.Nat.{ℕ, _≤_}
 use native.Mathlib.Omega.{arith}
-use lib.Dec.{eqb}
 use borrow.Author.Tests.{ne-eqb}
 use Rattle.block.specs.declared.Code.{Code}
 use Rattle.block.specs.declared.Code.the-variants.{VcaEnvelope, VcfEnvelope, ModEnvelope, LfoOne, LfoTwo, LfoOneUnipolar, LfoTwoUnipolar, FadeOne, FadeTwo, LowPass, HighPass, OscillatorOne, OscillatorTwo, Noise}

@@ -1,6 +1,5 @@
 // What the crates answer, as words.
 use curve::Height;
-use generator::Gates;
 use generator::Generator;
 use generator::MarkKind;
 use generator::Marks;

@@ -1,5 +1,7 @@
 // What differs between the bytes of two blocks: which generators' bytes are the same, and a line for each byte that is not.
 ghost use mathlib.Core.Path.{_≡_};
+ghost use Prim.Native.Nat.{_≤_};
+ghost use lib.ListN.{length, take};
 ghost use Rattle.text.specs.Text.{Puts};
 ghost use Rattle.block.specs.Codes.{byteAt, bytesOf};
 ghost use Rattle.changes.specs.Changes.{sameBytes, changeText, changesText};
@@ -66,46 +68,89 @@ pub fn put_changes(out: &mut [u8], at: usize, old: &[u8], new: &[u8], bytes: &[u
 }
 
 // ---- the bytes that a generator reads
+// Their numbers: the first `count` of eight.
+struct Numbers {
+    at: [u8; 8],
+    count: usize,
+}
+
+fn bytes_of(code: Code) -> Numbers
+    ensures { λ r. ⌜ (r .count ≤ length (r .at)) × (take (r .count) (r .at) ≡ bytesOf code) ⌝ }
+{
+    match code {
+        Code::VcaEnvelope => Numbers {
+            at: [53, 54, 55, 56, 58, 59, 60, 61],
+            count: 8,
+        },
+        Code::VcfEnvelope => Numbers {
+            at: [62, 63, 64, 65, 67, 68, 69, 70],
+            count: 8,
+        },
+        Code::ModEnvelope => Numbers {
+            at: [71, 72, 73, 74, 76, 77, 78, 79],
+            count: 8,
+        },
+        Code::LfoOne => Numbers {
+            at: [2, 6, 3, 0, 0, 0, 0, 0],
+            count: 3,
+        },
+        Code::LfoTwo => Numbers {
+            at: [9, 13, 10, 0, 0, 0, 0, 0],
+            count: 3,
+        },
+        Code::LfoOneUnipolar => Numbers {
+            at: [2, 6, 3, 0, 0, 0, 0, 0],
+            count: 3,
+        },
+        Code::LfoTwoUnipolar => Numbers {
+            at: [9, 13, 10, 0, 0, 0, 0, 0],
+            count: 3,
+        },
+        Code::FadeOne => Numbers {
+            at: [1, 0, 0, 0, 0, 0, 0, 0],
+            count: 1,
+        },
+        Code::FadeTwo => Numbers {
+            at: [8, 0, 0, 0, 0, 0, 0, 0],
+            count: 1,
+        },
+        Code::LowPass => Numbers {
+            at: [41, 51, 0, 0, 0, 0, 0, 0],
+            count: 2,
+        },
+        Code::HighPass => Numbers {
+            at: [0; 8],
+            count: 0,
+        },
+        Code::OscillatorOne => Numbers {
+            at: [16, 18, 19, 25, 0, 0, 0, 0],
+            count: 4,
+        },
+        Code::OscillatorTwo => Numbers {
+            at: [26, 0, 0, 0, 0, 0, 0, 0],
+            count: 1,
+        },
+        Code::Noise => Numbers {
+            at: [33, 0, 0, 0, 0, 0, 0, 0],
+            count: 1,
+        },
+    }
+}
+
 // Whether they are the same.
 pub fn same(old: &[u8], new: &[u8], code: Code) -> bool
     ensures { λ r. ⌜ r ≡ sameBytes (bytesOf code) (byteAt (now (old .entry))) (byteAt (now (new .entry))) ⌝ }
 {
-    match code {
-        Code::VcaEnvelope => same_bytes(old, new, &[53, 54, 55, 56, 58, 59, 60, 61]),
-        Code::VcfEnvelope => same_bytes(old, new, &[62, 63, 64, 65, 67, 68, 69, 70]),
-        Code::ModEnvelope => same_bytes(old, new, &[71, 72, 73, 74, 76, 77, 78, 79]),
-        Code::LfoOne => same_bytes(old, new, &[2, 6, 3]),
-        Code::LfoTwo => same_bytes(old, new, &[9, 13, 10]),
-        Code::LfoOneUnipolar => same_bytes(old, new, &[2, 6, 3]),
-        Code::LfoTwoUnipolar => same_bytes(old, new, &[9, 13, 10]),
-        Code::FadeOne => same_bytes(old, new, &[1]),
-        Code::FadeTwo => same_bytes(old, new, &[8]),
-        Code::LowPass => same_bytes(old, new, &[41, 51]),
-        Code::HighPass => true,
-        Code::OscillatorOne => same_bytes(old, new, &[16, 18, 19, 25]),
-        Code::OscillatorTwo => same_bytes(old, new, &[26]),
-        Code::Noise => same_bytes(old, new, &[33]),
-    }
+    let read = bytes_of(code);
+    let numbers = read.at;
+    same_bytes(old, new, &numbers[..read.count])
 }
 
 // The lines of those that differ.
 pub fn put_code_changes(out: &mut [u8], at: usize, old: &[u8], new: &[u8], code: Code) -> usize
     ensures { λ r. ⌜ Puts (now (out .entry)) at (changesText (bytesOf code) (byteAt (now (old .entry))) (byteAt (now (new .entry)))) (now (out .exit)) r ⌝ }
 {
-    match code {
-        Code::VcaEnvelope => put_changes(out, at, old, new, &[53, 54, 55, 56, 58, 59, 60, 61]),
-        Code::VcfEnvelope => put_changes(out, at, old, new, &[62, 63, 64, 65, 67, 68, 69, 70]),
-        Code::ModEnvelope => put_changes(out, at, old, new, &[71, 72, 73, 74, 76, 77, 78, 79]),
-        Code::LfoOne => put_changes(out, at, old, new, &[2, 6, 3]),
-        Code::LfoTwo => put_changes(out, at, old, new, &[9, 13, 10]),
-        Code::LfoOneUnipolar => put_changes(out, at, old, new, &[2, 6, 3]),
-        Code::LfoTwoUnipolar => put_changes(out, at, old, new, &[9, 13, 10]),
-        Code::FadeOne => put_changes(out, at, old, new, &[1]),
-        Code::FadeTwo => put_changes(out, at, old, new, &[8]),
-        Code::LowPass => put_changes(out, at, old, new, &[41, 51]),
-        Code::HighPass => at,
-        Code::OscillatorOne => put_changes(out, at, old, new, &[16, 18, 19, 25]),
-        Code::OscillatorTwo => put_changes(out, at, old, new, &[26]),
-        Code::Noise => put_changes(out, at, old, new, &[33]),
-    }
+    let read = bytes_of(code);
+    let numbers = read.at;
+    put_changes(out, at, old, new, &numbers[..read.count])
 }

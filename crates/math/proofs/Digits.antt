@@ -1,11 +1,11 @@
 -- A NUMBER OF 16 BITS AS A FLOAT: n over the bits of 2 ^ 23 is the float 2 ^ 23 + n. Assumes nothing.
 use mathlib.Core.Path.{_≡_, sym, ap, _∙_, subst}
 use mathlib.Core.Bool.{false}
-use Prim.Native.Nat.{ℕ, _+_, _-_, _*_, _/_, _%_, _^_, _<_}
+use Prim.Native.Nat.{ℕ, _+_, _-_, _/_, _%_, _^_, _<_}
 use native.Mathlib.Omega.{arith}
 use lib.IntN.{pos}
 use lib.Pow.{pow-pos}
-use lib.Ieee.{Float, binary32, odd, ofBits, ofInt}
+use lib.Ieee.{Float, binary32, odd, ofInt}
 use lib.Ieee.Exact.{HasValue, odd-sign}
 use Rattle.exact.specs.Binary32.{_⊖_, bits}
 use Rattle.math.proofs.Bits.{bits-are}

@@ -127,7 +127,7 @@ fn nearby(x: f32) -> f32
 }
 
 // What leads from a whole number less than 1 away from x to the largest not above x. It is added and not tested for: a branch here would go either way.
-fn drop(x: f32, whole: f32) -> f32
+fn step_down(x: f32, whole: f32) -> f32
     ensures { λ r. ⌜ r ≡ cond (lt x whole) (neg one₃₂) zero₃₂ ⌝ }
 {
     if x < whole {
@@ -147,7 +147,7 @@ fn far_floor(x: f32) -> f32
         return x;
     }
     let whole = nearby(x);
-    whole + drop(x, whole)
+    whole + step_down(x, whole)
 }
 
 // The largest whole number not above x. Near 0, where every caller's x lies, the sum with the centre is rounded to a whole number for either sign of x.
@@ -157,7 +157,7 @@ pub fn floor(x: f32) -> f32
     if x < NEAR {
         if -NEAR < x {
             let whole = x + CENTRE - CENTRE;
-            return whole + drop(x, whole);
+            return whole + step_down(x, whole);
         }
     }
     far_floor(x)

@@ -9,7 +9,7 @@ ghost use Rattle.strip.specs.Strip.{stripOf};
 ghost use Rattle.panel.specs.Pieces.{titleText, beneathText};
 ghost use Rattle.names.specs.Names.{titleOf};
 ghost use Rattle.page.specs.Panels.{placeText, panelEnd, blank, drawnText, chosenText, olderText, codeText, panelText, panelsText, arpeggioText};
-ghost use Rattle.page.specs.Page.{nameEnd, nameOf, styleText, headText, footText, pageOf, pageText};
+ghost use Rattle.page.specs.Page.{nameEnd, styleText, headText, footText, pageOf, pageText};
 use block::BLOCK;
 use block::Chosen;
 use block::Code;

@@ -4,7 +4,7 @@ ghost use Prim.Native.Nat.{_<_, _≤_, min};
 ghost use lib.ListN.{length};
 ghost use Rattle.text.specs.Text.{Puts};
 ghost use Rattle.panel.specs.Labels.{wholeOf, turnsText, scaleText, edgeText, subtitleText, segmentText, kindText, rowOf};
-ghost use Rattle.panel.specs.Pieces.{frameText, titleText, restText, pointText, pointsText, lineText, curveText, beneathText, ruleText, labelText, markText, rulesText, marksText, barText, someBars, barsText, stepsText};
+ghost use Rattle.panel.specs.Pieces.{frameText, titleText, restText, pointText, pointsText, lineText, curveText, beneathText, ruleText, labelText, markText, marksText, barText, barsText, stepsText};
 use generator::GATES_DRAWN;
 use generator::Gate;
 use generator::Gates;

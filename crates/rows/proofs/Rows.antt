@@ -1,10 +1,9 @@
 -- The rows of one sample more. Assumes nothing.
 use mathlib.Core.Path.{_≡_}
-use mathlib.Core.List.{List, []}
+use mathlib.Core.List.{List}
 use Prim.Native.Nat.{ℕ, _+_, _≤_}
 use native.Mathlib.Nat.{le-antisymm}
 use native.Mathlib.Numerals.{add-one}
-use lib.ListN.{length}
 use lib.Ieee.{Float}
 use Rattle.text.specs.Text.{Puts}
 use Rattle.text.proofs.Writing.{_⨾_, puts-none}

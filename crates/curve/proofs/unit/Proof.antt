@@ -1,5 +1,5 @@
 -- `unit` is the clamp to 0..1: what was raised to 0 is not above 1. Assumes nothing.
-use mathlib.Core.Path.{_≡_, refl, _∙_}
+use mathlib.Core.Path.{_≡_, refl}
 use mathlib.Core.Bool.{Bool, true, false, cond}
 use lib.Ieee.{Float, ofBits, lt}
 use Rattle.exact.specs.Binary32.{zero₃₂, one₃₂}

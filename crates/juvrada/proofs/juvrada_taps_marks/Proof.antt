@@ -5,7 +5,6 @@ use Rattle.generator.specs.Marks.{stored}
 use Rattle.taps.specs.declared.Taps.{Taps}
 use Rattle.taps.specs.Formula.{usedOf}
 use Rattle.taps.specs.Marks.{tapMarks}
-use Rattle.sheet.specs.declared.MarksAnswer.{MarksAnswer}
 use Rattle.sheet.specs.declared.Answer.the-variants.{Accepted}
 use Rattle.juvrada.specs.Results.{tapsAnswer}
 use Rattle.juvrada.proofs.Same.{same-marks}

@@ -21,11 +21,11 @@ returns-2 c = low _ (held (c .before .before)) (not-true _ (c .if2 .taken))
 nearby-requires : tie.Need-nearby-requires
 nearby-requires c κs = search needs
 
-drop-requires : tie.Need-drop-requires
-drop-requires c κs = search needs
+step-down-requires : tie.Need-step-down-requires
+step-down-requires c κs = search needs
 
 returns-3 : tie.Need-returns-3
-returns-3 c = simp (c .drop .ensures, c .before .nearby .ensures) (between _ (held (c .before .before .before .before)) (not-false _ (c .before .before .before .if1 .left)) (not-false _ (c .before .before .if2 .left)) _ refl)
+returns-3 c = simp (c .step-down .ensures, c .before .nearby .ensures) (between _ (held (c .before .before .before .before)) (not-false _ (c .before .before .before .if1 .left)) (not-false _ (c .before .before .if2 .left)) _ refl)
 
 pub far-floor-spec : {M : Type 1} → statement M
-far-floor-spec = tie.close (tie.spec returns returns-2 nearby-requires drop-requires returns-3)
+far-floor-spec = tie.close (tie.spec returns returns-2 nearby-requires step-down-requires returns-3)

@@ -1,5 +1,4 @@
 -- `lfo_numbers` meets its contract. Assumes nothing.
-use mathlib.Core.Path.{refl}
 use Rattle.numbers.specs.Numbers.{settingsNumbers, stored, settingsList, placesOf}
 use borrow.Author.Needs.{needs}
 use Rattle.numbers.proofs.lfo_numbers.Statement.{statement}
