@@ -7,9 +7,7 @@ use lib.ListN.{length}
 use lib.Ieee.{Float}
 use Rattle.generator.specs.Generator.{generatorOf}
 use Rattle.generator.specs.Heights.{heightOf}
-use Rattle.strip.specs.declared.Filled.{Filled}
-use Rattle.strip.specs.declared.Filled.the-variants.{Steps, WrongLength}
-use Rattle.strip.specs.Strip.{answerOf, stripOf}
+use Rattle.strip.specs.Strip.{lengthFits, stepsOf, stripOf}
 use Rattle.block.specs.declared.Refusal.{Refusal}
 use Rattle.block.specs.declared.Refusal.the-variants.{Block, Code, Strip}
 use Rattle.block.specs.declared.CodeRead.{CodeRead}
@@ -42,12 +40,8 @@ heightAnswer (AGenerator g) t = AHeight (heightOf (g .shape) t)
 heightAnswer (Refused r) t = NoHeight r
 
 -- A strip of n samples: the sum of their steps, or the refusal of its length, which is the last to be looked for.
-unfoldable pub filledAnswer : Filled → StripAnswer
-filledAnswer (Steps n) = AStrip n
-filledAnswer WrongLength = NoStrip Strip
-
 unfoldable pub stripAnswer : Chosen → ℕ → StripAnswer
-stripAnswer (AGenerator g) n = filledAnswer (answerOf (g .shape) n)
+stripAnswer (AGenerator g) n = cond (lengthFits n) (AStrip (stepsOf (g .shape) n)) (NoStrip Strip)
 stripAnswer (Refused r) n = NoStrip r
 
 -- What the strip holds afterwards.

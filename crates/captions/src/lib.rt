@@ -8,8 +8,7 @@ ghost use Rattle.captions.specs.Captions.{lastSegment, captionOf, captio
 use generator::Generator;
 use generator::Shape;
 use settings::Envelope;
-use strip::MAX_SAMPLES;
-use strip::MIN_SAMPLES;
+use strip::fits;
 use strip::sample_position;
 
 // The numbers of the segments, and that of none.
@@ -86,11 +85,7 @@ fn write_captions(g: Generator, out: &mut [u8])
 pub fn captions(g: Generator, out: &mut [u8]) -> Captioned
     ensures { λ r. ⌜ (r ≡ answerOf (length (now (out .entry)))) × (now (out .exit) ≡ captionsOf (g .shape) (now (out .entry))) ⌝ }
 {
-    let n = out.len();
-    if n < MIN_SAMPLES {
-        return Captioned::WrongLength;
-    }
-    if MAX_SAMPLES < n {
+    if !fits(out.len()) {
         return Captioned::WrongLength;
     }
     write_captions(g, out);

@@ -16,8 +16,7 @@ use Rattle.walk.specs.Formula.{stepOf, placeOf, fullFrom, fullSteps, walkedOf, 
 use Rattle.generator.specs.declared.Shape.{Shape}
 use Rattle.generator.specs.declared.Shape.the-variants.{Lfo as AnLfo}
 use Rattle.generator.specs.Heights.{heightOf}
-use Rattle.strip.specs.declared.Filled.the-variants.{Steps}
-use Rattle.strip.specs.Strip.{sampleOf, lengthFits, written, stepSum, answerOf, stripOf}
+use Rattle.strip.specs.Strip.{sampleOf, lengthFits, written, stepSum, stepsOf, stripOf}
 
 -- ---- sample i of n, and the bits of its position
 placed : ℕ × ℕ × ℕ → Bool
@@ -44,6 +43,6 @@ unfolding triangle stripOf written heightOf lfoHeightOf drawnOf shapeAtOf triang
 triangle-strip = refl
 
 -- The walk to phase 0 has 96 steps, that to phase 1 has 192.
-slewed-steps : answerOf (triangle 1) 2 ≡ Steps 288
-unfolding triangle answerOf stepSum heightOf lfoHeightOf walkedOf fullSteps fullFrom placeOf stepOf drawnOf positionOf sampleOf clampOf lfoOf shapeOf turnsOf byteOf toBits ofBits ofInt isNan lt le eq neg add sub mul div
+slewed-steps : stepsOf (triangle 1) 2 ≡ 288
+unfolding triangle stepsOf stepSum heightOf lfoHeightOf walkedOf fullSteps fullFrom placeOf stepOf drawnOf positionOf sampleOf clampOf lfoOf shapeOf turnsOf byteOf toBits ofBits ofInt isNan lt le eq neg add sub mul div
 slewed-steps = refl

@@ -10,8 +10,7 @@ use lib.Ieee.{Float}
 use Rattle.curve.specs.declared.Height.{Height}
 use Rattle.generator.specs.declared.Shape.{Shape}
 use Rattle.generator.specs.Heights.{heightOf}
-use Rattle.strip.specs.Strip.{partOf, sampleOf, lengthFits, filledOf, stepSum, stepsOf, answerOf, stripOf}
-use Rattle.strip.specs.declared.Filled.the-variants.{Steps, WrongLength}
+use Rattle.strip.specs.Strip.{partOf, sampleOf, lengthFits, filledOf, stepSum, stepsOf, stripOf}
 use Rattle.strip.proofs.Written.{written-next}
 use Rattle.strip.proofs.Laws.{height-steps, sum-at-most}
 
@@ -45,7 +44,7 @@ unfolding stepSum
 stepless s z n zero = refl
 stepless s z n (suc k) = simp (z (sampleOf n k), sym (stepless s z n k))
 
--- ---- the steps, the answer, and what the strip holds, by what `fits` says of the length
+-- ---- the steps, and what the strip holds, by what `fits` says of the length
 module _ (s : Shape) (xs : List Float) {fit : Bool} (e : fit ≡ lengthFits (length xs)) where
   pub refused : not fit ≡ true → (0 ≡ stepsOf s (length xs)) × (xs ≡ stripOf s xs)
   unfolding stepsOf stripOf
@@ -56,11 +55,3 @@ module _ (s : Shape) (xs : List Float) {fit : Bool} (e : fit ≡ lengthFits (len
       (total ≡ stepsOf s (length xs)) × (ys ≡ stripOf s xs)
   unfolding stepsOf stripOf
   accepted i t b d f = let h = sym e ∙ not-false fit t in (simp (h, d, b), simp (h, f, b))
-
-  pub wrong-length : not fit ≡ true → (WrongLength ≡ answerOf s (length xs)) × (xs ≡ stripOf s xs)
-  unfolding answerOf stripOf
-  wrong-length t = let h = sym e ∙ not-true fit t in (simp h, simp h)
-
-  pub all-steps : {total : ℕ} → not fit ≡ false → total ≡ stepsOf s (length xs) → Steps total ≡ answerOf s (length xs)
-  unfolding stepsOf answerOf
-  all-steps t d = let h = sym e ∙ not-false fit t in simp (d, h)

@@ -2,7 +2,7 @@
 use mathlib.Core.Path.{_≡_, refl, sym, subst, _∙_}
 use mathlib.Core.Bool.{Bool, true, false, not, _&&_}
 use Prim.Native.Nat.{ℕ, _≤_, _<_}
-use borrow.Author.Tests.{le-leb, lt-leb, not-false}
+use borrow.Author.Tests.{le-leb, not-false}
 use lib.Dec.{T, leb, leb→le}
 use lib.Ieee.Fits.{and-l, and-r}
 use Rattle.strip.specs.Strip.{lengthFits}
@@ -16,13 +16,3 @@ between n {fit} e t = (leb→le 2 n (and-l (leb 2 n) (leb n 4096) h), leb→le n
   where
     h : T (lengthFits n)
     h = subst T (sym (not-false fit t) ∙ e) tt
-
-pub too-short : (n : ℕ) → n < 2 → lengthFits n ≡ false
-too-short n h = simp (lt-leb 2 n h)
-
-pub too-long : (n : ℕ) → 4096 < n → lengthFits n ≡ false
-too-long n h = simp (lt-leb n 4096 h) (neither (leb 2 n))
-  where
-    neither : (b : Bool) → (b && false) ≡ false
-    neither true = refl
-    neither false = refl

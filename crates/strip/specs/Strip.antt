@@ -9,8 +9,6 @@ use lib.Ieee.{Float, binary32, ofInt}
 use Rattle.exact.specs.Binary32.{_⊘_}
 use Rattle.generator.specs.declared.Shape.{Shape}
 use Rattle.generator.specs.Heights.{heightOf}
-use Rattle.strip.specs.declared.Filled.{Filled}
-use Rattle.strip.specs.declared.Filled.the-variants.{Steps, WrongLength}
 
 -- Number i of those from 0 to `last`, spread from 0 to 1.
 abbrev pub partOf : ℕ → ℕ → Float
@@ -38,13 +36,9 @@ unfoldable pub stepSum : Shape → ℕ → ℕ → ℕ
 stepSum s n zero = 0
 stepSum s n (suc k) = stepSum s n k + heightOf s (sampleOf n k) .steps
 
--- The steps of all n samples, none where that length is refused.
+-- What is answered for a strip of n samples: the steps of all, none where that length is refused.
 unfoldable pub stepsOf : Shape → ℕ → ℕ
 stepsOf s n = cond (lengthFits n) (stepSum s n n) 0
-
--- What is answered for a strip of n samples: the steps of all, or that its length is refused.
-unfoldable pub answerOf : Shape → ℕ → Filled
-answerOf s n = cond (lengthFits n) (Steps (stepSum s n n)) WrongLength
 
 -- What the strip holds afterwards: every sample, or what it held where its length is refused.
 unfoldable pub stripOf : Shape → List Float → List Float

@@ -5,7 +5,7 @@ ghost use Prim.Native.Nat.{_-_, _≤_};
 ghost use lib.ListN.{length};
 ghost use lib.Ieee.{le};
 ghost use Rattle.exact.specs.Binary32.{zero₃₂};
-ghost use Rattle.strip.specs.Strip.{partOf, lengthFits, stepsOf, answerOf, stripOf};
+ghost use Rattle.strip.specs.Strip.{partOf, lengthFits, stepsOf, stripOf};
 use envelope::envelope_height;
 use filter::filter_height;
 use generator::Generator;
@@ -27,12 +27,6 @@ use walk::unslewed_height;
 pub const MIN_SAMPLES: usize = 2;
 
 pub const MAX_SAMPLES: usize = 4096;
-
-// What filling a strip comes to: the sum of the steps that its heights took, or a refusal.
-pub enum Filled {
-    Steps(u32),
-    WrongLength,
-}
 
 // Where sample i lies, of those from 0 to `last`.
 pub fn sample_position(i: u16, last: u16) -> f32
@@ -185,7 +179,8 @@ pub fn fill_lfo(l: Lfo, out: &mut [f32]) -> u32
     fill_slewed(l, out)
 }
 
-fn fill_samples(g: Generator, out: &mut [f32]) -> u32
+// The same of a generator, by its family.
+pub fn fill(g: Generator, out: &mut [f32]) -> u32
     ensures { λ r. ⌜ (r ≡ stepsOf (g .shape) (length (now (out .entry)))) × (now (out .exit) ≡ stripOf (g .shape) (now (out .entry))) ⌝ }
 {
     let shape = g.shape;
@@ -197,15 +192,4 @@ fn fill_samples(g: Generator, out: &mut [f32]) -> u32
         Shape::Oscillator(o) => fill_oscillator(o, out),
         Shape::Noise(s) => fill_noise(s, out),
     }
-}
-
-// Fills a strip with the heights of a curve.
-pub fn fill(g: Generator, out: &mut [f32]) -> Filled
-    ensures { λ r. ⌜ (r ≡ answerOf (g .shape) (length (now (out .entry)))) × (now (out .exit) ≡ stripOf (g .shape) (now (out .entry))) ⌝ }
-{
-    if !fits(out.len()) {
-        return Filled::WrongLength;
-    }
-    let steps = fill_samples(g, out);
-    Filled::Steps(steps)
 }

@@ -1,10 +1,9 @@
 -- `strip` answers as `stripAnswer` says and leaves what `stripAfter` says: a return for each refusal and one for the strip that is filled. Assumes nothing.
 use mathlib.Core.Path.{sym, _∙_}
-use borrow.Author.Tests.{eq-eqb, ne-eqb, not-true}
+use borrow.Author.Tests.{eq-eqb, ne-eqb, not-true, not-false}
 use Rattle.generator.specs.Generator.{generatorOf}
-use Rattle.strip.specs.Strip.{answerOf, stripOf}
-use Rattle.strip.proofs.Filling.{all-steps}
-use Rattle.block.specs.Refusals.{chosenBy, chosenOf, filledAnswer, stripAnswer, stripAfter}
+use Rattle.strip.specs.Strip.{stripOf}
+use Rattle.block.specs.Refusals.{chosenBy, chosenOf, stripAnswer, stripAfter}
 use borrow.Author.Needs.{needs}
 use Rattle.block.proofs.strip.Statement.{statement}
 use Rattle.block.proofs.strip.Tie as tie
@@ -23,7 +22,7 @@ fits-requires : tie.Need-fits-requires
 fits-requires c κs = search needs
 
 returns-2 : tie.Need-returns-2
-unfolding chosenOf chosenBy filledAnswer stripAnswer stripAfter generatorOf answerOf stripOf
+unfolding chosenOf chosenBy stripAnswer stripAfter generatorOf stripOf
 returns-2 c =
     let r = c .before .before .before in
     let e = eq-eqb _ _ (r .before .before .before .if1 .left) in
@@ -41,15 +40,15 @@ same-length : tie.Need-same-length
 same-length c = search needs
 
 returns-3 : tie.Need-returns-3
-unfolding chosenOf chosenBy filledAnswer stripAnswer stripAfter generatorOf
+unfolding chosenOf chosenBy stripAnswer stripAfter generatorOf
 returns-3 c =
     let f = c .before .before .before .before in
     let r = f .before .before .before in
-    let start = r .before .before .before .before .before .before in
     let filled = c .before .before .strip-at .ensures in
     let e = eq-eqb _ _ (r .before .before .before .if1 .left) in
     let code = sym (r .before .before .code-from .ensures) in
-    (simp (e, code, r .read .given .1, sym (all-steps _ (start .args .out .now) (f .before .fits2 .ensures) (f .if2 .left) (filled .0))), simp (e, code, r .read .given .1, filled .1))
+    let length = sym (f .before .fits2 .ensures) ∙ not-false _ (f .if2 .left) in
+    (simp (e, code, r .read .given .1, length, filled .0), simp (e, code, r .read .given .1, filled .1))
 
 returns-4 : tie.Need-returns-4
 unfolding chosenOf chosenBy stripAnswer stripAfter
