@@ -10,7 +10,7 @@ use lib.Ieee.Fits.{and-l, and-r}
 use lib.Ieee.Bits.{is-false}
 use borrow.Author.Tests.{ne-eqb}
 use Rattle.exact.specs.Binary32.{bits, zero₃₂}
-use Rattle.math.proofs.Every.{every, each}
+use Rattle.lists.proofs.Every.{every, each}
 use Rattle.settings.specs.Settings.{byteOf}
 use Rattle.generator.specs.Gates.{gateOf, closed, gatesOf}
 use Rattle.bars.specs.Bars.{touches, joinedFrom, joined, noBars, pushedBar, pushedBars, barsOf}

@@ -4,28 +4,26 @@ use mathlib.Core.Path.{_≡_, refl}
 use mathlib.Core.List.{List}
 use Prim.Native.Nat.{ℕ}
 use lib.ListN.{length}
-use Rattle.block.specs.declared.Code.{Code}
-use Rattle.block.specs.declared.Code.the-variants.{VcaEnvelope, VcfEnvelope, ModEnvelope, LfoOne, LfoTwo, LfoOneUnipolar, LfoTwoUnipolar, FadeOne, FadeTwo, LowPass, HighPass, OscillatorOne, OscillatorTwo, Noise}
-use Rattle.block.specs.declared.CodeRead.the-variants.{Known}
-use Rattle.block.specs.Codes.{blockLength, byteAt, codeOf, bytesOf, Agree, envelopeAt, lfoAt, shapeOf}
+use Rattle.codes.specs.declared.Code.{Code}
+use Rattle.codes.specs.declared.Code.the-variants.{Envelope, Lfo, LfoUnipolar, Fade, LowPass, HighPass, Oscillator, Noise}
+use Rattle.codes.specs.declared.OscillatorId.the-variants.{One, Two}
+use Rattle.codes.specs.declared.CodeRead.the-variants.{Known}
+use Rattle.codes.specs.Codes.{codeOf}
+use Rattle.codes.specs.Bytes.{Agree, bytesOf, byteAt, blockLength}
+use Rattle.block.specs.Shapes.{envelopeAt, lfoAt, oscillatorAt, shapeOf}
 use Rattle.block.specs.Refusals.{chosenBy, chosenOf}
 
 -- ---- THE THEOREM
 pub agreement : (c : Code) (a b : ℕ → ℕ) → Agree (bytesOf c) a b → shapeOf c a ≡ shapeOf c b
-unfolding Agree bytesOf shapeOf envelopeAt lfoAt
-agreement VcaEnvelope a b h = simp (h .0, h .1 .0, h .1 .1 .0, h .1 .1 .1 .0, h .1 .1 .1 .1 .0, h .1 .1 .1 .1 .1 .0, h .1 .1 .1 .1 .1 .1 .0, h .1 .1 .1 .1 .1 .1 .1 .0)
-agreement VcfEnvelope a b h = simp (h .0, h .1 .0, h .1 .1 .0, h .1 .1 .1 .0, h .1 .1 .1 .1 .0, h .1 .1 .1 .1 .1 .0, h .1 .1 .1 .1 .1 .1 .0, h .1 .1 .1 .1 .1 .1 .1 .0)
-agreement ModEnvelope a b h = simp (h .0, h .1 .0, h .1 .1 .0, h .1 .1 .1 .0, h .1 .1 .1 .1 .0, h .1 .1 .1 .1 .1 .0, h .1 .1 .1 .1 .1 .1 .0, h .1 .1 .1 .1 .1 .1 .1 .0)
-agreement LfoOne a b h = simp (h .0, h .1 .0, h .1 .1 .0)
-agreement LfoTwo a b h = simp (h .0, h .1 .0, h .1 .1 .0)
-agreement LfoOneUnipolar a b h = simp (h .0, h .1 .0, h .1 .1 .0)
-agreement LfoTwoUnipolar a b h = simp (h .0, h .1 .0, h .1 .1 .0)
-agreement FadeOne a b h = simp (h .0)
-agreement FadeTwo a b h = simp (h .0)
+unfolding Agree bytesOf shapeOf envelopeAt lfoAt oscillatorAt
+agreement (Envelope id) a b h = simp (h .0, h .1 .0, h .1 .1 .0, h .1 .1 .1 .0, h .1 .1 .1 .1 .0, h .1 .1 .1 .1 .1 .0, h .1 .1 .1 .1 .1 .1 .0, h .1 .1 .1 .1 .1 .1 .1 .0)
+agreement (Lfo id) a b h = simp (h .0, h .1 .0, h .1 .1 .0)
+agreement (LfoUnipolar id) a b h = simp (h .0, h .1 .0, h .1 .1 .0)
+agreement (Fade id) a b h = simp (h .0)
 agreement LowPass a b h = simp (h .0, h .1 .0)
 agreement HighPass a b h = refl
-agreement OscillatorOne a b h = simp (h .0, h .1 .0, h .1 .1 .0, h .1 .1 .1 .0)
-agreement OscillatorTwo a b h = simp (h .0)
+agreement (Oscillator One) a b h = simp (h .0, h .1 .0, h .1 .1 .0, h .1 .1 .1 .0)
+agreement (Oscillator Two) a b h = simp (h .0)
 agreement Noise a b h = simp (h .0)
 
 -- two blocks

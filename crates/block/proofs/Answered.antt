@@ -8,11 +8,13 @@ use lib.Ieee.{Float, binary32, fits}
 use borrow.Author.Tests.{eq-eqb}
 use Rattle.generator.specs.Generator.{generatorOf}
 use Rattle.generator.specs.Heights.{heightOf}
-use Rattle.block.specs.declared.Code.{Code}
-use Rattle.block.specs.declared.CodeRead.the-variants.{Known}
+use Rattle.codes.specs.declared.Code.{Code}
+use Rattle.codes.specs.declared.CodeRead.the-variants.{Known}
 use Rattle.block.specs.declared.HeightAnswer.{HeightAnswer}
 use Rattle.block.specs.declared.HeightAnswer.the-variants.{Height as AHeight}
-use Rattle.block.specs.Codes.{blockLength, byteAt, codeOf, shapeOf}
+use Rattle.codes.specs.Codes.{codeOf}
+use Rattle.codes.specs.Bytes.{byteAt, blockLength}
+use Rattle.block.specs.Shapes.{shapeOf}
 use Rattle.block.specs.Refusals.{chosenBy, chosenOf, heightAnswer}
 use Rattle.block.specs.Promises.{HeightAnswered}
 use Rattle.block.proofs.EveryCode.{block-height}

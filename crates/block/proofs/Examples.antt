@@ -1,5 +1,5 @@
 -- REFUSALS AND SETTINGS THAT ARE KNOWN BEFOREHAND: refusals by the length of a block of zeros and the code; settings by the code and its bytes, as the Rust prints them; and no code reads
--- past a block's end. The rows of settings are of compare/generator/run, built over the unchanged generator.rs (deepmind-midi, commit a25f50498d). Assumes nothing.
+-- past a block's end. The rows of settings are of reference/generator/run, built over the unchanged generator.rs (deepmind-midi, commit a25f50498d). Assumes nothing.
 use mathlib.Core.Bool.{Bool, true, false, cond, _&&_}
 use mathlib.Core.List.{List, [], _∷_}
 use Prim.Native.Nat.{ℕ}
@@ -9,7 +9,7 @@ use lib.Ieee.{Float, binary32, ofBits, toBits, ofInt, add, sub, mul, div, lt}
 use Rattle.exact.specs.Value.{value}
 use Rattle.math.specs.Horner.{horner}
 use Rattle.math.specs.Formulas.{clampOf, floorOf, fractOf, scaleOf, exp2Coefficients, exp2Within, exp2Of}
-use Rattle.math.proofs.Examples.{allPass}
+use Rattle.lists.proofs.Rows.{allPass}
 use Rattle.settings.specs.declared.LfoShape.{LfoShape}
 use Rattle.settings.specs.declared.LfoShape.the-variants.{Sine, Triangle, Square, RampUp, RampDown, SampleAndHold, SampleAndGlide}
 use Rattle.settings.specs.declared.Pass.{Pass}
@@ -18,14 +18,20 @@ use Rattle.settings.specs.Settings.{byteOf, totalOf, firstOf, secondOf, thirdOf
 use Rattle.settings.specs.Settings as shape
 use Rattle.generator.specs.declared.Shape.{Shape}
 use Rattle.generator.specs.declared.Shape.the-variants.{Envelope as AnEnvelope, Fade as AFade, Lfo as AnLfo, Filter as AFilter, Oscillator as AnOscillator, Noise as ANoise}
-use Rattle.block.specs.declared.Code.{Code}
-use Rattle.block.specs.declared.Code.the-variants.{VcaEnvelope, VcfEnvelope, ModEnvelope, LfoOne, LfoTwo, LfoOneUnipolar, LfoTwoUnipolar, FadeOne, FadeTwo, LowPass, HighPass, OscillatorOne, OscillatorTwo, Noise}
-use Rattle.block.specs.declared.CodeRead.{CodeRead}
-use Rattle.block.specs.declared.CodeRead.the-variants.{Known, Above}
+use Rattle.codes.specs.declared.Code.{Code}
+use Rattle.codes.specs.declared.Code.the-variants.{Envelope, Lfo, LfoUnipolar, Fade, LowPass, HighPass, Oscillator, Noise}
+use Rattle.codes.specs.declared.EnvelopeId.the-variants.{Vca, Vcf, Mod}
+use Rattle.codes.specs.declared.LfoId.the-variants.{One as LfoOne, Two as LfoTwo}
+use Rattle.codes.specs.declared.OscillatorId.the-variants.{One, Two}
+use Rattle.codes.specs.declared.CodeRead.{CodeRead}
+use Rattle.codes.specs.declared.CodeRead.the-variants.{Known, Above}
 use Rattle.block.specs.declared.Chosen.{Chosen}
 use Rattle.block.specs.declared.Chosen.the-variants.{Generator as AGenerator, Refused}
-use Rattle.block.specs.Codes.{blockLength, codeOf, bytesOf, envelopeAt, lfoAt, shapeOf}
-use Rattle.block.specs.Refusals.{refusalNumber, chosenBy, chosenOf}
+use Rattle.codes.specs.Codes.{codes, codeIn, codeOf}
+use Rattle.codes.specs.Bytes.{bytesOf, blockLength}
+use Rattle.block.specs.Shapes.{envelopeAt, lfoAt, oscillatorAt, shapeOf}
+use Rattle.block.specs.Refusals.{chosenBy, chosenOf}
+use Rattle.refusals.specs.Refusals.{refusalNumber}
 
 -- ---- refusals
 -- the number of an answer, 0 where nothing is refused
@@ -41,7 +47,7 @@ gives : ℕ × ℕ × ℕ → Bool
 gives r = eqb (answered (chosenOf (replicate (r .0) 0) (r .1))) (r .2)
 
 refusals-agree : T (allPass gives rows)
-unfolding allPass gives rows answered refusalNumber chosenBy chosenOf codeOf
+unfolding allPass gives rows answered refusalNumber chosenBy chosenOf codes codeIn
 refusals-agree = tt
 
 -- ---- settings
@@ -116,7 +122,7 @@ holds : ℕ × List (ℕ × ℕ) × List ℕ → Bool
 holds r = same (chosenWords (codeOf (r .0)) (reading (r .1))) (r .2)
 
 settings-agree : T (allPass holds settingsRows)
-unfolding allPass holds settingsRows same reading chosenWords words word flag shapeNumber passNumber codeOf shapeOf envelopeAt lfoAt byteOf totalOf firstOf secondOf thirdOf slopeOf sloped sustainEndOf bendOf envelopeOf shape.shapeOf turnsOf lfoOf fadeOf poleSlopeOf lowPassOf highPassOf depthOf widthOf sweepOf oscillatorOneOf oscillatorTwoOf noiseOf toBits ofBits ofInt exp2Of exp2Within exp2Coefficients clampOf lt horner fractOf floorOf scaleOf value add sub mul div
+unfolding allPass holds settingsRows same reading chosenWords words word flag shapeNumber passNumber codes codeIn shapeOf envelopeAt lfoAt oscillatorAt byteOf totalOf firstOf secondOf thirdOf slopeOf sloped sustainEndOf bendOf envelopeOf shape.shapeOf turnsOf lfoOf fadeOf poleSlopeOf lowPassOf highPassOf depthOf widthOf sweepOf oscillatorOneOf oscillatorTwoOf noiseOf toBits ofBits ofInt exp2Of exp2Within exp2Coefficients clampOf lt horner fractOf floorOf scaleOf value add sub mul div
 settings-agree = tt
 
 -- ---- the bytes lie in the block
@@ -126,17 +132,17 @@ within (n ∷ ns) = ltb n blockLength && within ns
 
 bytes-within : (c : Code) → T (within (bytesOf c))
 unfolding within bytesOf
-bytes-within VcaEnvelope = tt
-bytes-within VcfEnvelope = tt
-bytes-within ModEnvelope = tt
-bytes-within LfoOne = tt
-bytes-within LfoTwo = tt
-bytes-within LfoOneUnipolar = tt
-bytes-within LfoTwoUnipolar = tt
-bytes-within FadeOne = tt
-bytes-within FadeTwo = tt
+bytes-within (Envelope Vca) = tt
+bytes-within (Envelope Vcf) = tt
+bytes-within (Envelope Mod) = tt
+bytes-within (Lfo LfoOne) = tt
+bytes-within (Lfo LfoTwo) = tt
+bytes-within (LfoUnipolar LfoOne) = tt
+bytes-within (LfoUnipolar LfoTwo) = tt
+bytes-within (Fade LfoOne) = tt
+bytes-within (Fade LfoTwo) = tt
 bytes-within LowPass = tt
 bytes-within HighPass = tt
-bytes-within OscillatorOne = tt
-bytes-within OscillatorTwo = tt
+bytes-within (Oscillator One) = tt
+bytes-within (Oscillator Two) = tt
 bytes-within Noise = tt

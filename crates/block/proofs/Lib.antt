@@ -1,5 +1,4 @@
--- The codes' numbers, the bytes that decide what a code draws, what is promised of its heights; refusals that are known beforehand.
-pub mod Numbers
+-- The bytes that decide what a code draws, what is promised of its heights; refusals that are known beforehand.
 pub mod Agreement
 pub mod EveryCode
 pub mod Examples

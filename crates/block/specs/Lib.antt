@@ -1,4 +1,4 @@
--- A block's codes and the bytes that each reads; what is refused; what is promised of a height.
-pub mod Codes
+-- The shape of a block's code; what is refused; what is promised of a height.
+pub mod Shapes
 pub mod Refusals
 pub mod Promises

@@ -2,7 +2,7 @@
 use mathlib.Core.Path.{_≡_}
 use mathlib.Core.Bool.{Bool, false, not, cond}
 use mathlib.Core.List.{List}
-use Prim.Native.Nat.{ℕ}
+use Prim.Native.Nat.{ℕ, _+_}
 use lib.Dec.{T, eqb}
 use lib.ListN.{length}
 use lib.Ieee.{Float}
@@ -10,31 +10,27 @@ use Rattle.exact.specs.Fraction.{Fraction, ratio}
 use Rattle.curve.specs.declared.Height.{Height}
 use Rattle.curve.specs.Curve.{Drawn}
 use Rattle.settings.specs.Settings.{isOn}
-use Rattle.walk.specs.Steps.{Steps}
+use Rattle.lfo.specs.Steps.{Steps}
 use Rattle.generator.specs.Heights.{heightℚ, phaseOf}
-use Rattle.block.specs.declared.Code.{Code}
-use Rattle.block.specs.declared.Code.the-variants.{VcaEnvelope, VcfEnvelope, ModEnvelope, LfoOne, LfoTwo, LfoOneUnipolar, LfoTwoUnipolar, FadeOne, FadeTwo, LowPass, HighPass, OscillatorOne, OscillatorTwo, Noise}
-use Rattle.block.specs.declared.CodeRead.the-variants.{Known}
+use Rattle.codes.specs.declared.Code.{Code}
+use Rattle.codes.specs.declared.Code.the-variants.{Envelope, Lfo, LfoUnipolar, Fade, LowPass, HighPass, Oscillator, Noise}
+use Rattle.codes.specs.declared.CodeRead.the-variants.{Known}
 use Rattle.block.specs.declared.HeightAnswer.{HeightAnswer}
 use Rattle.block.specs.declared.HeightAnswer.the-variants.{Height as AHeight}
-use Rattle.block.specs.Codes.{blockLength, byteAt, codeOf, shapeOf}
+use Rattle.codes.specs.Codes.{codeOf}
+use Rattle.codes.specs.Bytes.{lfoFirst, byteAt, blockLength}
+use Rattle.block.specs.Shapes.{shapeOf}
 use Rattle.block.specs.Refusals.{chosenOf, heightAnswer}
 
--- Whether a code's height is walked: an LFO's, where its slew byte is not 0.
+-- Whether a code's height is walked: an LFO's, where its slew byte, four past its first, is not 0.
 unfoldable pub slewedCode : Code → (ℕ → ℕ) → Bool
-slewedCode VcaEnvelope b = false
-slewedCode VcfEnvelope b = false
-slewedCode ModEnvelope b = false
-slewedCode LfoOne b = isOn (b 6)
-slewedCode LfoTwo b = isOn (b 13)
-slewedCode LfoOneUnipolar b = isOn (b 6)
-slewedCode LfoTwoUnipolar b = isOn (b 13)
-slewedCode FadeOne b = false
-slewedCode FadeTwo b = false
+slewedCode (Envelope id) b = false
+slewedCode (Lfo id) b = isOn (b (lfoFirst id + 4))
+slewedCode (LfoUnipolar id) b = isOn (b (lfoFirst id + 4))
+slewedCode (Fade id) b = false
 slewedCode LowPass b = false
 slewedCode HighPass b = false
-slewedCode OscillatorOne b = false
-slewedCode OscillatorTwo b = false
+slewedCode (Oscillator id) b = false
 slewedCode Noise b = false
 
 -- The bound of an LFO, by its slew byte: a walk has one of its own.
@@ -43,19 +39,13 @@ lfoBound slew = cond (eqb slew 0) (ratio 1 262144) (ratio 1 4096)
 
 -- The bound of a code.
 unfoldable pub boundOf : Code → (ℕ → ℕ) → Fraction
-boundOf VcaEnvelope b = ratio 1 131072
-boundOf VcfEnvelope b = ratio 1 131072
-boundOf ModEnvelope b = ratio 1 131072
-boundOf LfoOne b = lfoBound (b 6)
-boundOf LfoTwo b = lfoBound (b 13)
-boundOf LfoOneUnipolar b = lfoBound (b 6)
-boundOf LfoTwoUnipolar b = lfoBound (b 13)
-boundOf FadeOne b = ratio 1 262144
-boundOf FadeTwo b = ratio 1 262144
+boundOf (Envelope id) b = ratio 1 131072
+boundOf (Lfo id) b = lfoBound (b (lfoFirst id + 4))
+boundOf (LfoUnipolar id) b = lfoBound (b (lfoFirst id + 4))
+boundOf (Fade id) b = ratio 1 262144
 boundOf LowPass b = ratio 1 262144
 boundOf HighPass b = ratio 1 262144
-boundOf OscillatorOne b = ratio 1 262144
-boundOf OscillatorTwo b = ratio 1 262144
+boundOf (Oscillator id) b = ratio 1 262144
 boundOf Noise b = ratio 1 262144
 
 -- DEMAND 3 of a code's height h: a number from 0 to 1, no further than the code's bound from the exact height; its steps are the walk's where it is walked, else 0.

@@ -8,17 +8,19 @@ use lib.Ieee.{Float}
 use Rattle.generator.specs.Generator.{generatorOf}
 use Rattle.generator.specs.Heights.{heightOf}
 use Rattle.strip.specs.Strip.{lengthFits, stepsOf, stripOf}
-use Rattle.block.specs.declared.Refusal.{Refusal}
-use Rattle.block.specs.declared.Refusal.the-variants.{Block, Code, Strip}
-use Rattle.block.specs.declared.CodeRead.{CodeRead}
-use Rattle.block.specs.declared.CodeRead.the-variants.{Known, Above}
+use Rattle.refusals.specs.declared.Refusal.{Refusal}
+use Rattle.refusals.specs.declared.Refusal.the-variants.{Block, Code, Strip}
+use Rattle.codes.specs.declared.CodeRead.{CodeRead}
+use Rattle.codes.specs.declared.CodeRead.the-variants.{Known, Above}
 use Rattle.block.specs.declared.Chosen.{Chosen}
 use Rattle.block.specs.declared.Chosen.the-variants.{Generator as AGenerator, Refused}
 use Rattle.block.specs.declared.HeightAnswer.{HeightAnswer}
 use Rattle.block.specs.declared.HeightAnswer.the-variants.{Height as AHeight, Refused as NoHeight}
 use Rattle.block.specs.declared.StripAnswer.{StripAnswer}
 use Rattle.block.specs.declared.StripAnswer.the-variants.{Filled as AStrip, Refused as NoStrip}
-use Rattle.block.specs.Codes.{byteAt, blockLength, codeOf, shapeOf}
+use Rattle.codes.specs.Codes.{codeOf}
+use Rattle.codes.specs.Bytes.{byteAt, blockLength}
+use Rattle.block.specs.Shapes.{shapeOf}
 
 unfoldable pub refusalNumber : Refusal → ℕ
 refusalNumber Block = 1

@@ -1,20 +1,37 @@
 // A block of a program's bytes and a generator's code, read as a generator or refused; the height and the strip of what is read.
 ghost use mathlib.Core.Path.{_≡_};
-ghost use Prim.Native.Nat.{_+_, _≤_};
 ghost use lib.ListN.{length};
 ghost use Rattle.generator.specs.Heights.{heightOf};
 ghost use Rattle.strip.specs.Strip.{stepsOf, stripOf};
-ghost use Rattle.block.specs.Codes.{byteAt, codeOf, blockLength, envelopeAt, lfoAt, shapeOf};
-ghost use Rattle.block.specs.Refusals.{refusalNumber, chosenOf, stripAnswer, stripAfter};
+ghost use Rattle.settings.specs.Settings.{fadeOf};
+ghost use Rattle.codes.specs.Bytes.{fadeByte, lfoFirst, envelopeFirst, byteAt, blockLength};
+ghost use Rattle.block.specs.Shapes.{envelopeAt, lfoAt, oscillatorAt, shapeOf};
+ghost use Rattle.block.specs.Refusals.{chosenOf, stripAnswer, stripAfter};
+ghost use Rattle.refusals.specs.Refusals.{refusalNumber};
 ghost use Rattle.block.specs.Promises.{HeightAnswered};
+use codes::Code;
+use codes::CodeRead;
+use codes::EnvelopeId;
+use codes::LfoId;
+use codes::OscillatorId;
+use codes::code_from;
+use codes::envelope_first;
+use codes::fade_byte;
+use codes::lfo_first;
 use curve::Height;
 use envelope::envelope_height;
+use fade::fade_height;
 use filter::filter_height;
 use generator::Generator;
 use generator::Shape;
 use generator::of_shape;
+use lfo::lfo_height;
+use noise::noise_height;
+use oscillator::oscillator_height;
 use settings::Envelope;
+use settings::Fade;
 use settings::Lfo;
+use settings::Oscillator;
 use settings::envelope_from;
 use settings::fade_from;
 use settings::high_pass;
@@ -23,9 +40,6 @@ use settings::low_pass_from;
 use settings::noise_from;
 use settings::oscillator_one_from;
 use settings::oscillator_two_from;
-use simple::fade_height;
-use simple::noise_height;
-use simple::oscillator_height;
 use strip::fill_envelope;
 use strip::fill_fade;
 use strip::fill_filter;
@@ -33,35 +47,12 @@ use strip::fill_lfo;
 use strip::fill_noise;
 use strip::fill_oscillator;
 use strip::fits;
-use walk::lfo_height;
 
 // Why an input is refused: the block's length, the code, the strip's length.
 pub enum Refusal {
     Block,
     Code,
     Strip,
-}
-
-pub enum Code {
-    VcaEnvelope,
-    VcfEnvelope,
-    ModEnvelope,
-    LfoOne,
-    LfoTwo,
-    LfoOneUnipolar,
-    LfoTwoUnipolar,
-    FadeOne,
-    FadeTwo,
-    LowPass,
-    HighPass,
-    OscillatorOne,
-    OscillatorTwo,
-    Noise,
-}
-
-pub enum CodeRead {
-    Known(Code),
-    Above,
 }
 
 pub enum Chosen {
@@ -92,35 +83,13 @@ pub fn refusal_number(r: Refusal) -> u32
     }
 }
 
-pub fn code_from(byte: u8) -> CodeRead
-    ensures { λ r. ⌜ r ≡ codeOf byte ⌝ }
-{
-    match byte {
-        0 => CodeRead::Known(Code::VcaEnvelope),
-        1 => CodeRead::Known(Code::VcfEnvelope),
-        2 => CodeRead::Known(Code::ModEnvelope),
-        3 => CodeRead::Known(Code::LfoOne),
-        4 => CodeRead::Known(Code::LfoTwo),
-        5 => CodeRead::Known(Code::LfoOneUnipolar),
-        6 => CodeRead::Known(Code::LfoTwoUnipolar),
-        7 => CodeRead::Known(Code::FadeOne),
-        8 => CodeRead::Known(Code::FadeTwo),
-        9 => CodeRead::Known(Code::LowPass),
-        10 => CodeRead::Known(Code::HighPass),
-        11 => CodeRead::Known(Code::OscillatorOne),
-        12 => CodeRead::Known(Code::OscillatorTwo),
-        13 => CodeRead::Known(Code::Noise),
-        14..=255 => CodeRead::Above,
-    }
-}
-
 // ---- settings, from the bytes of a whole block
 // The four times and levels from a byte on; one byte between them and their curves is not read.
-fn envelope_at(block: &[u8], from: usize) -> Envelope
-    requires { ⌜ from + 8 ≤ 241 ⌝ }
+fn envelope_at(block: &[u8], id: EnvelopeId) -> Envelope
     requires { ⌜ length (now block) ≡ blockLength ⌝ }
-    ensures { λ r. ⌜ Shape.Envelope r ≡ envelopeAt (byteAt (now (block .entry))) from ⌝ }
+    ensures { λ r. ⌜ r ≡ envelopeAt (byteAt (now (block .entry))) (envelopeFirst id) ⌝ }
 {
+    let from = envelope_first(id);
     envelope_from(
         block[from],
         block[from + 1],
@@ -134,12 +103,30 @@ fn envelope_at(block: &[u8], from: usize) -> Envelope
 }
 
 // An LFO's shape, its slew and its key sync.
-fn lfo_at(block: &[u8], from: usize, unipolar: bool) -> Lfo
-    requires { ⌜ from + 4 ≤ 241 ⌝ }
+fn lfo_at(block: &[u8], id: LfoId, unipolar: bool) -> Lfo
     requires { ⌜ length (now block) ≡ blockLength ⌝ }
-    ensures { λ r. ⌜ Shape.Lfo r ≡ lfoAt (byteAt (now (block .entry))) from unipolar ⌝ }
+    ensures { λ r. ⌜ r ≡ lfoAt (byteAt (now (block .entry))) (lfoFirst id) unipolar ⌝ }
 {
+    let from = lfo_first(id);
     lfo_from(block[from], block[from + 4], block[from + 1], unipolar)
+}
+
+fn fade_at(block: &[u8], id: LfoId) -> Fade
+    requires { ⌜ length (now block) ≡ blockLength ⌝ }
+    ensures { λ r. ⌜ r ≡ fadeOf (byteAt (now (block .entry)) (fadeByte id)) ⌝ }
+{
+    let from = fade_byte(id);
+    fade_from(block[from])
+}
+
+fn oscillator_at(block: &[u8], id: OscillatorId) -> Oscillator
+    requires { ⌜ length (now block) ≡ blockLength ⌝ }
+    ensures { λ r. ⌜ r ≡ oscillatorAt (byteAt (now (block .entry))) id ⌝ }
+{
+    match id {
+        OscillatorId::One => oscillator_one_from(block[16], block[18], block[19], block[25]),
+        OscillatorId::Two => oscillator_two_from(block[26]),
+    }
 }
 
 // The shape of a code, from the bytes that the code reads.
@@ -148,24 +135,13 @@ fn shape_at(block: &[u8], code: Code) -> Shape
     ensures { λ r. ⌜ r ≡ shapeOf code (byteAt (now (block .entry))) ⌝ }
 {
     match code {
-        Code::VcaEnvelope => Shape::Envelope(envelope_at(block, 53)),
-        Code::VcfEnvelope => Shape::Envelope(envelope_at(block, 62)),
-        Code::ModEnvelope => Shape::Envelope(envelope_at(block, 71)),
-        Code::LfoOne => Shape::Lfo(lfo_at(block, 2, false)),
-        Code::LfoTwo => Shape::Lfo(lfo_at(block, 9, false)),
-        Code::LfoOneUnipolar => Shape::Lfo(lfo_at(block, 2, true)),
-        Code::LfoTwoUnipolar => Shape::Lfo(lfo_at(block, 9, true)),
-        Code::FadeOne => Shape::Fade(fade_from(block[1])),
-        Code::FadeTwo => Shape::Fade(fade_from(block[8])),
+        Code::Envelope(id) => Shape::Envelope(envelope_at(block, id)),
+        Code::Lfo(id) => Shape::Lfo(lfo_at(block, id, false)),
+        Code::LfoUnipolar(id) => Shape::Lfo(lfo_at(block, id, true)),
+        Code::Fade(id) => Shape::Fade(fade_at(block, id)),
         Code::LowPass => Shape::Filter(low_pass_from(block[41], block[51])),
         Code::HighPass => Shape::Filter(high_pass()),
-        Code::OscillatorOne => Shape::Oscillator(oscillator_one_from(
-            block[16],
-            block[18],
-            block[19],
-            block[25],
-        )),
-        Code::OscillatorTwo => Shape::Oscillator(oscillator_two_from(block[26])),
+        Code::Oscillator(id) => Shape::Oscillator(oscillator_at(block, id)),
         Code::Noise => Shape::Noise(noise_from(block[33])),
     }
 }
@@ -176,22 +152,13 @@ fn height_at(block: &[u8], code: Code, t: f32) -> Height
     ensures { λ r. ⌜ r ≡ heightOf (shapeOf code (byteAt (now (block .entry)))) t ⌝ }
 {
     match code {
-        Code::VcaEnvelope => envelope_height(envelope_at(block, 53), t),
-        Code::VcfEnvelope => envelope_height(envelope_at(block, 62), t),
-        Code::ModEnvelope => envelope_height(envelope_at(block, 71), t),
-        Code::LfoOne => lfo_height(lfo_at(block, 2, false), t),
-        Code::LfoTwo => lfo_height(lfo_at(block, 9, false), t),
-        Code::LfoOneUnipolar => lfo_height(lfo_at(block, 2, true), t),
-        Code::LfoTwoUnipolar => lfo_height(lfo_at(block, 9, true), t),
-        Code::FadeOne => fade_height(fade_from(block[1]), t),
-        Code::FadeTwo => fade_height(fade_from(block[8]), t),
+        Code::Envelope(id) => envelope_height(envelope_at(block, id), t),
+        Code::Lfo(id) => lfo_height(lfo_at(block, id, false), t),
+        Code::LfoUnipolar(id) => lfo_height(lfo_at(block, id, true), t),
+        Code::Fade(id) => fade_height(fade_at(block, id), t),
         Code::LowPass => filter_height(low_pass_from(block[41], block[51]), t),
         Code::HighPass => filter_height(high_pass(), t),
-        Code::OscillatorOne => oscillator_height(
-            oscillator_one_from(block[16], block[18], block[19], block[25]),
-            t,
-        ),
-        Code::OscillatorTwo => oscillator_height(oscillator_two_from(block[26]), t),
+        Code::Oscillator(id) => oscillator_height(oscillator_at(block, id), t),
         Code::Noise => noise_height(noise_from(block[33]), t),
     }
 }
@@ -202,22 +169,13 @@ fn strip_at(block: &[u8], code: Code, out: &mut [f32]) -> u32
     ensures { λ r. ⌜ (r ≡ stepsOf (shapeOf code (byteAt (now (block .entry)))) (length (now (out .entry)))) × (now (out .exit) ≡ stripOf (shapeOf code (byteAt (now (block .entry)))) (now (out .entry))) ⌝ }
 {
     match code {
-        Code::VcaEnvelope => fill_envelope(envelope_at(block, 53), out),
-        Code::VcfEnvelope => fill_envelope(envelope_at(block, 62), out),
-        Code::ModEnvelope => fill_envelope(envelope_at(block, 71), out),
-        Code::LfoOne => fill_lfo(lfo_at(block, 2, false), out),
-        Code::LfoTwo => fill_lfo(lfo_at(block, 9, false), out),
-        Code::LfoOneUnipolar => fill_lfo(lfo_at(block, 2, true), out),
-        Code::LfoTwoUnipolar => fill_lfo(lfo_at(block, 9, true), out),
-        Code::FadeOne => fill_fade(fade_from(block[1]), out),
-        Code::FadeTwo => fill_fade(fade_from(block[8]), out),
+        Code::Envelope(id) => fill_envelope(envelope_at(block, id), out),
+        Code::Lfo(id) => fill_lfo(lfo_at(block, id, false), out),
+        Code::LfoUnipolar(id) => fill_lfo(lfo_at(block, id, true), out),
+        Code::Fade(id) => fill_fade(fade_at(block, id), out),
         Code::LowPass => fill_filter(low_pass_from(block[41], block[51]), out),
         Code::HighPass => fill_filter(high_pass(), out),
-        Code::OscillatorOne => fill_oscillator(
-            oscillator_one_from(block[16], block[18], block[19], block[25]),
-            out,
-        ),
-        Code::OscillatorTwo => fill_oscillator(oscillator_two_from(block[26]), out),
+        Code::Oscillator(id) => fill_oscillator(oscillator_at(block, id), out),
         Code::Noise => fill_noise(noise_from(block[33]), out),
     }
 }

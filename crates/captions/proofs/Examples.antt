@@ -4,11 +4,12 @@ use mathlib.Core.List.{List, [], _∷_, map}
 use Prim.Native.Nat.{ℕ}
 use lib.Dec.{T, eqb}
 use lib.Ieee.{ofBits, ofInt, add, div, lt, le, eq}
-use Rattle.math.proofs.Examples.{allPass}
+use Rattle.lists.proofs.Rows.{allPass}
 use Rattle.settings.specs.Settings.{byteOf, totalOf, firstOf, secondOf, thirdOf, envelopeOf}
 use Rattle.generator.specs.declared.Shape.the-variants.{Envelope as AnEnvelope}
 use Rattle.generator.specs.Marks.{segmentNumber, envelopeMarks}
-use Rattle.strip.specs.Strip.{sampleOf, written}
+use Rattle.strip.specs.Strip.{sampleOf}
+use Rattle.lists.specs.Written.{written}
 use Rattle.captions.specs.Captions.{startedBy, segmentFrom, lastSegment, captionOf, captionAt, captionsOf}
 
 same : List ℕ → List ℕ → Bool

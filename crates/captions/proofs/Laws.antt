@@ -10,9 +10,10 @@ use Rattle.settings.specs.declared.Fade.{Fade}
 use Rattle.generator.specs.declared.Shape.{Shape}
 use Rattle.generator.specs.declared.Shape.the-variants.{Envelope as AnEnvelope, Fade as AFade}
 use Rattle.generator.specs.Marks.{segmentNumber}
-use Rattle.strip.specs.Strip.{lengthFits, written}
+use Rattle.strip.specs.Strip.{lengthFits}
+use Rattle.lists.specs.Written.{written}
 use Rattle.strip.proofs.Lengths.{fits-between}
-use Rattle.strip.proofs.Written.{written-length, written-at}
+use Rattle.lists.proofs.Written.{written-length, written-at}
 use Rattle.captions.specs.Captions.{captionOf, noCaption, captionAt, captionsOf}
 
 pub captions-length : (s : Shape) (xs : List ℕ) → length (captionsOf s xs) ≡ length xs

@@ -6,7 +6,8 @@ use Prim.Native.Nat.{ℕ, _+_, _-_, _≤_}
 use native.Mathlib.Omega.{arith}
 use lib.ListN.{length}
 use Rattle.generator.specs.declared.Shape.{Shape}
-use Rattle.strip.specs.Strip.{lengthFits, written}
+use Rattle.strip.specs.Strip.{lengthFits}
+use Rattle.lists.specs.Written.{written}
 use Rattle.captions.specs.declared.Captioned.the-variants.{Written, WrongLength}
 use Rattle.captions.specs.Captions.{captionAt, answerOf, captionsOf}
 

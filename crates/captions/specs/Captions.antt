@@ -12,7 +12,8 @@ use Rattle.generator.specs.declared.MarkKind.{MarkKind}
 use Rattle.generator.specs.declared.MarkKind.the-variants.{Segment as ASegment, Corner, Cycle, Tap, Width, Sweep}
 use Rattle.generator.specs.declared.Mark.{Mark}
 use Rattle.generator.specs.Marks.{segmentNumber, envelopeMarks}
-use Rattle.strip.specs.Strip.{sampleOf, lengthFits, written}
+use Rattle.strip.specs.Strip.{sampleOf, lengthFits}
+use Rattle.lists.specs.Written.{written}
 use Rattle.captions.specs.declared.Captioned.{Captioned}
 use Rattle.captions.specs.declared.Captioned.the-variants.{Written, WrongLength}
 

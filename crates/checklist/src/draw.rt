@@ -4,9 +4,9 @@ ghost use lib.ListN.{length};
 use crate::row::Input;
 use block::Chosen;
 use curve::Height;
-use words::float_of;
-use words::low_byte;
-use words::word_of;
+use float_bits::float_of;
+use float_bits::low_byte;
+use float_bits::word_of;
 
 // The places of the bytes that a code reads, in their order, a byte each; f2, which is 242, is no place.
 fn places(code: u8) -> u64 {

@@ -2,8 +2,8 @@
 use crate::draw;
 use crate::row::Input;
 use crate::row::Row;
-use words::agreeing;
-use words::word_of;
+use float_bits::agreeing;
+use float_bits::word_of;
 
 // The bits of 0.
 const LEFT: u32 = 0;

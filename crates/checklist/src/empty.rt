@@ -17,7 +17,7 @@ fn samples(row: Row, code: u8) -> Row {
             position: draw::part(i, 1024),
         };
         let h = draw::height(input);
-        next = next.note(ruler::within(h.height, 0, ONE), 1, input);
+        next = next.note(fixed_point::within(h.height, 0, ONE), 1, input);
         i += 1;
     }
     next

@@ -1,12 +1,12 @@
-// Row 5: ruler against formula. Each line of the list has a height's input and its bounds, in units of 2^-32: compare/exact/heights.py says how
+// Row 5: ruler against formula. Each line of the list has a height's input and its bounds, in units of 2^-32: reference/exact/heights.py says how
 // they are made. The bounds are rounded outward to whole units, so a height may lie up to 2^-32 further from its exact height than its
 // code's bound; the comparison itself rounds nothing.
 use crate::draw;
 use crate::row::Input;
 use crate::row::Row;
 use crate::row::plus;
-use words::low_byte;
-use words::low_word;
+use float_bits::low_byte;
+use float_bits::low_word;
 
 pub struct Reading {
     // Whether the reading is within a comment, or within a number, and the number so far.
@@ -96,7 +96,7 @@ impl Reading {
             return next;
         }
         let h = draw::height(input);
-        next.row = row.note(ruler::within(h.height, self.low, self.high), 1, input);
+        next.row = row.note(fixed_point::within(h.height, self.low, self.high), 1, input);
         next
     }
 

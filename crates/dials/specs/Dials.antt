@@ -6,10 +6,11 @@ use lib.Dec.{eqb}
 use lib.ListN.{length}
 use Rattle.text.specs.Text.{ascii}
 use Rattle.text.specs.Spelled.{decimalOf}
-use Rattle.block.specs.Codes.{byteAt, blockLength}
-use Rattle.block.specs.declared.Code.{Code}
-use Rattle.block.specs.declared.Code.the-variants.{VcaEnvelope, VcfEnvelope, ModEnvelope, LfoOne, LfoTwo, LfoOneUnipolar, LfoTwoUnipolar, FadeOne, FadeTwo, LowPass, HighPass, OscillatorOne, OscillatorTwo, Noise}
-use Rattle.notes.specs.Notes.{switchNote, shapeNote, polesNote, sourceNote, depthNote}
+use Rattle.codes.specs.Bytes.{fadeByte, lfoFirst, envelopeFirst, byteAt, blockLength}
+use Rattle.codes.specs.declared.Code.{Code}
+use Rattle.codes.specs.declared.Code.the-variants.{Envelope, Lfo, LfoUnipolar, Fade, LowPass, HighPass, Oscillator, Noise}
+use Rattle.codes.specs.declared.OscillatorId.the-variants.{One, Two}
+use Rattle.labels.specs.Notes.{switchNote, shapeNote, polesNote, sourceNote, depthNote}
 
 -- How far below the frame the four lines are, in hundredths of a millimetre.
 abbrev pub lineOne : ℕ
@@ -87,19 +88,14 @@ abbrev pub onlyDial : List ℕ → ℕ → List ℕ
 onlyDial name b = plainDial lineOne name b
 
 unfoldable pub dialsOf : Code → (ℕ → ℕ) → List ℕ
-dialsOf VcaEnvelope b = envelopeDials b 53
-dialsOf VcfEnvelope b = envelopeDials b 62
-dialsOf ModEnvelope b = envelopeDials b 71
-dialsOf LfoOne b = lfoDials b 2
-dialsOf LfoTwo b = lfoDials b 9
-dialsOf LfoOneUnipolar b = lfoDials b 2
-dialsOf LfoTwoUnipolar b = lfoDials b 9
-dialsOf FadeOne b = onlyDial (ascii "Fade time") (b 1)
-dialsOf FadeTwo b = onlyDial (ascii "Fade time") (b 8)
+dialsOf (Envelope id) b = envelopeDials b (envelopeFirst id)
+dialsOf (Lfo id) b = lfoDials b (lfoFirst id)
+dialsOf (LfoUnipolar id) b = lfoDials b (lfoFirst id)
+dialsOf (Fade id) b = onlyDial (ascii "Fade time") (b (fadeByte id))
 dialsOf LowPass b = lowPassDials b
 dialsOf HighPass b = highPassDials
-dialsOf OscillatorOne b = oscillatorDials b
-dialsOf OscillatorTwo b = onlyDial (ascii "Level") (b 26)
+dialsOf (Oscillator One) b = oscillatorDials b
+dialsOf (Oscillator Two) b = onlyDial (ascii "Level") (b 26)
 dialsOf Noise b = onlyDial (ascii "Level") (b 33)
 
 -- The lines of a code for a whole block; a block of another length has none.

@@ -3,16 +3,20 @@ ghost use mathlib.Core.Path.{_≡_};
 ghost use Prim.Native.Nat.{_+_, _≤_};
 ghost use lib.ListN.{length};
 ghost use Rattle.text.specs.Text.{Puts};
-ghost use Rattle.block.specs.Codes.{byteAt, blockLength};
-ghost use Rattle.notes.specs.Notes.{switchNote};
+ghost use Rattle.codes.specs.Bytes.{byteAt, blockLength};
+ghost use Rattle.labels.specs.Notes.{switchNote};
 ghost use Rattle.dials.specs.Dials.{dialStart, dialEnd, dialText, plainDial, onlyDial, curvedDial, shapeDial, polesDial, sourceDial, depthDial, envelopeDials, lfoDials, lowPassDials, oscillatorDials, dialsOf, dialsText};
 use block::BLOCK;
-use block::Code;
-use notes::put_depth;
-use notes::put_poles;
-use notes::put_shape;
-use notes::put_source;
-use notes::put_switch;
+use codes::Code;
+use codes::OscillatorId;
+use codes::envelope_first;
+use codes::fade_byte;
+use codes::lfo_first;
+use labels::put_depth;
+use labels::put_poles;
+use labels::put_shape;
+use labels::put_source;
+use labels::put_switch;
 use text::put;
 use text::put_decimal;
 
@@ -158,23 +162,23 @@ fn dials_at(out: &mut [u8], at: usize, block: &[u8], code: Code) -> usize
     ensures { λ r. ⌜ Puts (now (out .entry)) at (dialsOf code (byteAt (now (block .entry)))) (now (out .exit)) r ⌝ }
 {
     match code {
-        Code::VcaEnvelope => envelope_dials(out, at, block, 53),
-        Code::VcfEnvelope => envelope_dials(out, at, block, 62),
-        Code::ModEnvelope => envelope_dials(out, at, block, 71),
-        Code::LfoOne => lfo_dials(out, at, block, 2),
-        Code::LfoTwo => lfo_dials(out, at, block, 9),
-        Code::LfoOneUnipolar => lfo_dials(out, at, block, 2),
-        Code::LfoTwoUnipolar => lfo_dials(out, at, block, 9),
-        Code::FadeOne => put_dial(out, at, b"Fade time", block[1]),
-        Code::FadeTwo => put_dial(out, at, b"Fade time", block[8]),
+        Code::Envelope(id) => envelope_dials(out, at, block, envelope_first(id)),
+        Code::Lfo(id) => lfo_dials(out, at, block, lfo_first(id)),
+        Code::LfoUnipolar(id) => lfo_dials(out, at, block, lfo_first(id)),
+        Code::Fade(id) => {
+            let n = fade_byte(id);
+            put_dial(out, at, b"Fade time", block[n])
+        }
         Code::LowPass => low_pass_dials(out, at, block),
         Code::HighPass => put(
             out,
             at,
             b"<text class='d' y='1300'>6 dB an octave, fixed</text>",
         ),
-        Code::OscillatorOne => oscillator_dials(out, at, block),
-        Code::OscillatorTwo => put_dial(out, at, b"Level", block[26]),
+        Code::Oscillator(id) => match id {
+            OscillatorId::One => oscillator_dials(out, at, block),
+            OscillatorId::Two => put_dial(out, at, b"Level", block[26]),
+        },
         Code::Noise => put_dial(out, at, b"Level", block[33]),
     }
 }

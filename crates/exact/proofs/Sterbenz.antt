@@ -19,8 +19,7 @@ use Rattle.exact.proofs.Parts.{num⁺, num⁻, times⁺, times⁻}
 use Rattle.exact.proofs.Order.{≤ℚ-parts, parts-≤ℚ, ≤ℚ-trans, equal-refl, equal-sym, equal-at-most}
 use Rattle.exact.proofs.Defined.{value-defined}
 use Rattle.exact.proofs.Operations.{Signed, Quanta, SumOf, add-is, sub-is}
-use Rattle.exact.proofs.Quanta.{HasQuanta, InFormat, in-format, quanta-value, equal-of-quanta, equal-quanta}
-use Rattle.exact.proofs.Quanta.{nonnegative-quanta, difference-quanta}
+use Rattle.exact.proofs.Quanta.{HasQuanta, InFormat, in-format, quanta-value, equal-of-quanta, equal-quanta, nonnegative-quanta, difference-quanta}
 
 -- ---- a sum that needs no more digits than the format has
 -- p - n is ± v

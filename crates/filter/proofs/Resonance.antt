@@ -17,7 +17,7 @@ use Rattle.exact.proofs.Order.{≤ℚ-parts, ≤ℚ-total}
 use Rattle.exact.proofs.Analyser.{Bound, Expr, var, constant, approx, plus, times, over, Approximates, constantOf, analyse, plain, evalFloat, evalExact}
 use Rattle.exact.proofs.Soundness.{plainly}
 use Rattle.exact.proofs.Inputs.{range, two, two-inputs, covers, concludes, concluded}
-use Rattle.math.proofs.Every.{every, each}
+use Rattle.lists.proofs.Every.{every, each}
 use Rattle.curve.proofs.Positions.{Level}
 use Rattle.settings.specs.declared.Pass.{Pass}
 use Rattle.settings.specs.declared.Pass.the-variants.{Low, High}

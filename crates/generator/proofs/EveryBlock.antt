@@ -6,8 +6,8 @@ use lib.Dec.{T}
 use lib.Ieee.{ofBits, ofInt, div, le}
 use Rattle.settings.specs.Settings.{byteOf, envelopeOf, lfoOf, fadeOf, lowPassOf, highPassOf, oscillatorOneOf, oscillatorTwoOf, noiseOf}
 use Rattle.settings.proofs.Given.{envelope-range, fade-range, low-pass-range, high-pass-range, oscillator-one-range, oscillator-two-range, noise-range}
-use Rattle.walk.proofs.Steps.{slew-above}
-use Rattle.walk.proofs.LfoDrawn.{walk-range}
+use Rattle.lfo.proofs.Steps.{slew-above}
+use Rattle.lfo.proofs.LfoDrawn.{walk-range}
 use Rattle.generator.specs.declared.Shape.the-variants.{Envelope as AnEnvelope, Fade as AFade, Lfo as AnLfo, Filter as AFilter, Oscillator as AnOscillator, Noise as ANoise}
 use Rattle.generator.specs.Heights.{slewed}
 use Rattle.generator.proofs.EveryShape.{ShapeRange}

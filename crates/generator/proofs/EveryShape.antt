@@ -10,14 +10,16 @@ use Rattle.settings.specs.declared.Lfo.{Lfo}
 use Rattle.settings.proofs.Ranges.{EnvelopeRange, FadeRange, FilterRange, OscillatorRange, NoiseRange}
 use Rattle.envelope.specs.Formula as envelope
 use Rattle.envelope.proofs.Distance.{envelope-drawn}
-use Rattle.simple.specs.Formula.{fadeHeightOf, oscillatorHeightOf, noiseHeightOf}
-use Rattle.simple.proofs.FadeError.{fade-drawn}
-use Rattle.simple.proofs.OscillatorError.{oscillator-drawn}
-use Rattle.simple.proofs.NoiseError.{noise-drawn}
+use Rattle.fade.specs.Formula.{fadeHeightOf}
+use Rattle.oscillator.specs.Formula.{oscillatorHeightOf}
+use Rattle.noise.specs.Formula.{noiseHeightOf}
+use Rattle.fade.proofs.Distance.{fade-drawn}
+use Rattle.oscillator.proofs.Distance.{oscillator-drawn}
+use Rattle.noise.proofs.Distance.{noise-drawn}
 use Rattle.filter.specs.Formula as filter
 use Rattle.filter.proofs.FilterError.{filter-drawn}
-use Rattle.walk.proofs.Steps.{lfo-steps, no-steps}
-use Rattle.walk.proofs.LfoDrawn.{WalkRange, lfo-drawn}
+use Rattle.lfo.proofs.Steps.{lfo-steps, no-steps}
+use Rattle.lfo.proofs.LfoDrawn.{WalkRange, lfo-drawn}
 use Rattle.generator.specs.declared.Shape.{Shape}
 use Rattle.generator.specs.declared.Shape.the-variants.{Envelope as AnEnvelope, Fade as AFade, Lfo as AnLfo, Filter as AFilter, Oscillator as AnOscillator, Noise as ANoise}
 use Rattle.generator.specs.Heights.{heightOf, heightℚ, boundOf, slewed, phaseOf, Stepped, Promised}

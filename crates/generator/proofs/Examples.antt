@@ -6,7 +6,7 @@ use Prim.Native.Nat.{ℕ, zero, suc}
 use lib.Dec.{T, eqb}
 use lib.Ieee.{binary32, ofBits, toBits, ofInt, add, sub, mul, div, lt}
 use Rattle.exact.specs.Binary32.{bits}
-use Rattle.math.proofs.Examples.{allPass}
+use Rattle.lists.proofs.Rows.{allPass}
 use Rattle.settings.specs.Settings.{byteOf, totalOf, firstOf, secondOf, thirdOf, envelopeOf, shapeOf, turnsOf, lfoOf, fadeOf, lowPassOf, highPassOf, depthOf, widthOf, sweepOf, oscillatorOneOf, oscillatorTwoOf, noiseOf}
 use Rattle.generator.specs.declared.Shape.{Shape}
 use Rattle.generator.specs.declared.Shape.the-variants.{Envelope as AnEnvelope, Fade as AFade, Lfo as AnLfo, Filter as AFilter, Oscillator as AnOscillator, Noise as ANoise}

@@ -9,15 +9,16 @@ use Rattle.exact.specs.Value.{value}
 use Rattle.exact.specs.Binary32.{_⊗_, zero₃₂, quarter₃₂, half₃₂, one₃₂}
 use Rattle.math.specs.Horner.{horner}
 use Rattle.math.specs.Formulas.{clampOf, floorOf, fractOf, scaleOf, exp2Coefficients, exp2Within, exp2Of}
-use Rattle.math.proofs.Examples.{allPass}
+use Rattle.lists.proofs.Rows.{allPass}
 use Rattle.curve.specs.Curve.{positionOf, drawnOf}
 use Rattle.settings.specs.declared.LfoShape.{LfoShape}
 use Rattle.settings.specs.declared.LfoShape.the-variants.{Triangle, Square, RampUp, SampleAndHold, SampleAndGlide}
 use Rattle.settings.specs.Settings.{byteOf, totalOf, firstOf, secondOf, thirdOf, slopeOf, sloped, sustainEndOf, bendOf, envelopeOf, shapeOf, turnsOf, lfoOf, fadeOf, depthOf, widthOf, sweepOf, oscillatorOneOf, oscillatorTwoOf}
 use Rattle.envelope.specs.Formula.{divideOf, denominatorOf, bentUnit, bentOf, attackOf, decayOf, sustainOf, releaseOf, levelOf, heightOf}
-use Rattle.simple.specs.Formula.{fadeLevelOf, fadeHeightOf, sawOf, pulseOf, addedOf, sumOf, wavesOf, oscillatorLevelOf, oscillatorHeightOf}
-use Rattle.lfo.specs.Formula.{wrapOf, samples, sampleOf, indexOf, sampledOf, triangleOf, squareOf, rampUpOf, glideOf, shapeAtOf}
-use Rattle.walk.specs.Formula.{stepOf, placeOf, fullFrom, fullSteps, walkedOf, lfoHeightOf}
+use Rattle.fade.specs.Formula.{fadeLevelOf, fadeHeightOf}
+use Rattle.oscillator.specs.Formula.{sawOf, pulseOf, addedOf, sumOf, wavesOf, oscillatorLevelOf, oscillatorHeightOf}
+use Rattle.lfo_shapes.specs.Formula.{wrapOf, samples, sampleOf, indexOf, sampledOf, triangleOf, squareOf, rampUpOf, glideOf, shapeAtOf}
+use Rattle.lfo.specs.Formula.{stepOf, placeOf, fullFrom, fullSteps, walkedOf, lfoHeightOf}
 
 -- the height of a shape at slew 0
 unslewed : LfoShape → Float → Float

@@ -5,7 +5,7 @@ use Prim.Native.Nat.{ℕ, _<_}
 use lib.Dec.{T, eqb}
 use lib.Ieee.{ofBits, ofInt, div, le}
 use Rattle.exact.specs.Binary32.{zero₃₂}
-use Rattle.math.proofs.Every.{every, each}
+use Rattle.lists.proofs.Every.{every, each}
 use Rattle.settings.specs.Settings.{byteOf}
 
 -- Two answers that are the same.

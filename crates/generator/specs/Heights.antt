@@ -10,13 +10,17 @@ use Rattle.curve.specs.declared.Height.{Height}
 use Rattle.curve.specs.Curve.{positionOf, Drawn}
 use Rattle.envelope.specs.Formula as envelope
 use Rattle.envelope.specs.Exact as envelope-exact
-use Rattle.simple.specs.Formula.{fadeHeightOf, oscillatorHeightOf, noiseHeightOf}
-use Rattle.simple.specs.Exact.{fadeHeightℚ, oscillatorHeightℚ, noiseHeightℚ}
+use Rattle.fade.specs.Formula.{fadeHeightOf}
+use Rattle.oscillator.specs.Formula.{oscillatorHeightOf}
+use Rattle.noise.specs.Formula.{noiseHeightOf}
+use Rattle.fade.specs.Exact.{fadeHeightℚ}
+use Rattle.oscillator.specs.Exact.{oscillatorHeightℚ}
+use Rattle.noise.specs.Exact.{noiseHeightℚ}
 use Rattle.filter.specs.Formula as filter
 use Rattle.filter.specs.Exact as filter-exact
-use Rattle.walk.specs.Formula.{lfoHeightOf}
-use Rattle.walk.specs.Exact.{lfoHeightℚ}
-use Rattle.walk.specs.Steps.{Steps}
+use Rattle.lfo.specs.Formula.{lfoHeightOf}
+use Rattle.lfo.specs.Exact.{lfoHeightℚ}
+use Rattle.lfo.specs.Steps.{Steps}
 use Rattle.generator.specs.declared.Shape.{Shape}
 use Rattle.generator.specs.declared.Shape.the-variants.{Envelope as AnEnvelope, Fade as AFade, Lfo as AnLfo, Filter as AFilter, Oscillator as AnOscillator, Noise as ANoise}
 

@@ -8,7 +8,11 @@ ghost use Rattle.generator.specs.Marks.{noMarks, markOf, pushed, pushedA
 ghost use Rattle.generator.specs.Gates.{gateOf, gatesOf};
 use curve::Height;
 use envelope::envelope_height;
+use fade::fade_height;
 use filter::filter_height;
+use lfo::lfo_height;
+use noise::noise_height;
+use oscillator::oscillator_height;
 use settings::Envelope;
 use settings::Fade;
 use settings::Filter;
@@ -24,10 +28,6 @@ use settings::low_pass_from;
 use settings::noise_from;
 use settings::oscillator_one_from;
 use settings::oscillator_two_from;
-use simple::fade_height;
-use simple::noise_height;
-use simple::oscillator_height;
-use walk::lfo_height;
 
 // What a generator is a shape of.
 pub enum Shape {

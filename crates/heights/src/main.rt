@@ -2,11 +2,11 @@
 ghost use mathlib.Core.Path.{_≡_};
 ghost use Prim.Native.Nat.{_≤_};
 ghost use lib.ListN.{length};
-use block::Refusal;
 use block::StripAnswer;
-use block::refusal_number;
 use libc::STDIN_FILENO;
 use libc::STDOUT_FILENO;
+use refusals::Refusal;
+use refusals::refusal_number;
 use rows::Number;
 use rows::put_rows;
 use rows::read_number;
@@ -64,7 +64,7 @@ fn print_rows(heights: &[f32]) {
 fn print_strip(block: &[u8], code: u8, heights: &mut [f32], n: usize)
     requires { ⌜ n ≤ length (now heights) ⌝ }
 {
-    let answer = sheet::strip(block, code, &mut heights[..n]);
+    let answer = api::strip(block, code, &mut heights[..n]);
     match answer {
         StripAnswer::Filled(_) => print_rows(&heights[..n]),
         StripAnswer::Refused(r) => refuse(r),

@@ -5,9 +5,9 @@ use Prim.Native.Nat.{ℕ}
 use lib.Ieee.{Float}
 use Rattle.curve.specs.declared.Height.{Height}
 use Rattle.taps.specs.declared.Taps.{Taps}
-use Rattle.sheet.specs.declared.MarksAnswer.{MarksAnswer}
-use Rattle.sheet.specs.declared.GatesAnswer.{GatesAnswer}
-use Rattle.sheet.specs.Promises.{TapsAnswered}
+use Rattle.api.specs.declared.MarksAnswer.{MarksAnswer}
+use Rattle.api.specs.declared.GatesAnswer.{GatesAnswer}
+use Rattle.api.specs.Promises.{TapsAnswered}
 use Rattle.juvrada.specs.declared.CountResult.{CountResult}
 use Rattle.juvrada.specs.Promises.{MarksReturned, GatesReturned}
 

@@ -5,15 +5,15 @@ use Prim.Native.Nat.{ℕ}
 use lib.Ieee.{Float}
 use Rattle.curve.specs.declared.Height.{Height}
 use Rattle.taps.specs.declared.Taps.{Taps}
-use Rattle.strip.specs.Strip.{written}
-use Rattle.numbers.specs.Arrays.{markPosition, markKind, marksUsed, gateStart, gateEnd, gatesUsed}
+use Rattle.lists.specs.Written.{written}
+use Rattle.abi.specs.Arrays.{markPosition, markKind, marksUsed, gateStart, gateEnd, gatesUsed}
 use Rattle.block.specs.declared.HeightAnswer.{HeightAnswer}
 use Rattle.block.specs.declared.HeightAnswer.the-variants.{Height as AHeight}
 use Rattle.block.specs.declared.StripAnswer.{StripAnswer}
-use Rattle.sheet.specs.declared.MarksAnswer.{MarksAnswer}
-use Rattle.sheet.specs.declared.GatesAnswer.{GatesAnswer}
+use Rattle.api.specs.declared.MarksAnswer.{MarksAnswer}
+use Rattle.api.specs.declared.GatesAnswer.{GatesAnswer}
 use Rattle.block.specs.Promises.{HeightAnswered}
-use Rattle.sheet.specs.Promises.{StripAnswered, TapsAnswered}
+use Rattle.api.specs.Promises.{StripAnswered, TapsAnswered}
 use Rattle.juvrada.specs.declared.HeightResult.{HeightResult}
 use Rattle.juvrada.specs.declared.StripResult.{StripResult}
 use Rattle.juvrada.specs.declared.CountResult.{CountResult}

@@ -10,25 +10,25 @@ use Rattle.generator.specs.Marks.{stored}
 use Rattle.taps.specs.declared.Taps.{Taps}
 use Rattle.taps.specs.Formula.{usedOf}
 use Rattle.taps.specs.Marks.{tapMarks}
-use Rattle.numbers.specs.Numbers.{settingsNumbers}
-use Rattle.strip.specs.Strip.{written}
-use Rattle.numbers.specs.Arrays.{settingAt, settingsUsed}
-use Rattle.block.specs.Refusals.{refusalNumber}
-use Rattle.sheet.specs.declared.Answer.{Answer}
-use Rattle.sheet.specs.declared.Answer.the-variants.{Accepted, Refused}
+use Rattle.abi.specs.Numbers.{settingsNumbers}
+use Rattle.lists.specs.Written.{written}
+use Rattle.abi.specs.Arrays.{settingAt, settingsUsed}
+use Rattle.refusals.specs.Refusals.{refusalNumber}
+use Rattle.api.specs.declared.Answer.{Answer}
+use Rattle.api.specs.declared.Answer.the-variants.{Accepted, Refused}
 use Rattle.block.specs.declared.HeightAnswer.{HeightAnswer}
 use Rattle.block.specs.declared.HeightAnswer.the-variants.{Height as AHeight, Refused as NoHeight}
 use Rattle.block.specs.declared.StripAnswer.{StripAnswer}
 use Rattle.block.specs.declared.StripAnswer.the-variants.{Filled, Refused as NoStrip}
-use Rattle.sheet.specs.declared.RestAnswer.{RestAnswer}
-use Rattle.sheet.specs.declared.RestAnswer.the-variants.{Rest, Refused as NoRest}
-use Rattle.sheet.specs.declared.ScaleAnswer.{ScaleAnswer}
-use Rattle.sheet.specs.declared.ScaleAnswer.the-variants.{Scale as AScale, Refused as NoScale}
-use Rattle.sheet.specs.declared.AnchoredAnswer.{AnchoredAnswer}
-use Rattle.sheet.specs.declared.AnchoredAnswer.the-variants.{Anchored, Refused as NoAnchor}
-use Rattle.sheet.specs.declared.SettingsAnswer.{SettingsAnswer}
-use Rattle.sheet.specs.declared.SettingsAnswer.the-variants.{Settings, Refused as NoSettings}
-use Rattle.sheet.specs.declared.MarksAnswer.{MarksAnswer}
+use Rattle.api.specs.declared.RestAnswer.{RestAnswer}
+use Rattle.api.specs.declared.RestAnswer.the-variants.{Rest, Refused as NoRest}
+use Rattle.api.specs.declared.ScaleAnswer.{ScaleAnswer}
+use Rattle.api.specs.declared.ScaleAnswer.the-variants.{Scale as AScale, Refused as NoScale}
+use Rattle.api.specs.declared.AnchoredAnswer.{AnchoredAnswer}
+use Rattle.api.specs.declared.AnchoredAnswer.the-variants.{Anchored, Refused as NoAnchor}
+use Rattle.api.specs.declared.SettingsAnswer.{SettingsAnswer}
+use Rattle.api.specs.declared.SettingsAnswer.the-variants.{Settings, Refused as NoSettings}
+use Rattle.api.specs.declared.MarksAnswer.{MarksAnswer}
 use Rattle.juvrada.specs.declared.HeightResult.{HeightResult}
 use Rattle.juvrada.specs.declared.StripResult.{StripResult}
 use Rattle.juvrada.specs.declared.CountResult.{CountResult}

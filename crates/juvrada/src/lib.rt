@@ -2,33 +2,33 @@
 ghost use mathlib.Core.Path.{_≡_};
 ghost use lib.ListN.{length};
 ghost use Rattle.block.specs.Refusals.{chosenOf};
-ghost use Rattle.sheet.specs.Answers.{settingsAnswer, restAnswer, scaleAnswer, anchoredAnswer, marksAnswer, gatesAnswer, barsAnswer, captionsAnswer, captionsAfter};
+ghost use Rattle.api.specs.Answers.{settingsAnswer, restAnswer, scaleAnswer, anchoredAnswer, marksAnswer, gatesAnswer, barsAnswer, captionsAnswer, captionsAfter};
 ghost use Rattle.juvrada.specs.Results.{answerNumber, heightResult, stripResult, restResult, scaleResult, anchoredResult, settingsResult, settingsAfter, tapsOf, tapsAnswer};
 ghost use Rattle.juvrada.specs.Promises.{HeightReturned, StripReturned, MarksReturned, GatesReturned, TapsReturned};
+use abi::MAX_SETTINGS;
+use abi::gates_used;
+use abi::lay_gate_ends;
+use abi::lay_gate_starts;
+use abi::lay_mark_kinds;
+use abi::lay_mark_positions;
+use abi::lay_settings;
+use abi::marks_used;
+use abi::scale_number;
+use abi::scale_value;
+use abi::settings_numbers;
+use abi::settings_used;
+use api::AnchoredAnswer;
+use api::Answer;
+use api::GatesAnswer;
+use api::MarksAnswer;
+use api::RestAnswer;
+use api::ScaleAnswer;
+use api::SettingsAnswer;
 use block::HeightAnswer;
 use block::StripAnswer;
-use block::refusal_number;
 use generator::GATES_DRAWN;
 use generator::MAX_MARKS;
-use numbers::MAX_SETTINGS;
-use numbers::gates_used;
-use numbers::lay_gate_ends;
-use numbers::lay_gate_starts;
-use numbers::lay_mark_kinds;
-use numbers::lay_mark_positions;
-use numbers::lay_settings;
-use numbers::marks_used;
-use numbers::scale_number;
-use numbers::scale_value;
-use numbers::settings_numbers;
-use numbers::settings_used;
-use sheet::AnchoredAnswer;
-use sheet::Answer;
-use sheet::GatesAnswer;
-use sheet::MarksAnswer;
-use sheet::RestAnswer;
-use sheet::ScaleAnswer;
-use sheet::SettingsAnswer;
+use refusals::refusal_number;
 use taps::MAX_TAPS;
 use taps::Taps;
 
@@ -166,14 +166,14 @@ fn anchored_result(answer: AnchoredAnswer) -> AnchoredResult
 pub extern "C" fn juvrada_height(block: &[u8], code: u8, t: f32) -> HeightResult
     ensures { λ r. ⌜ HeightReturned (now (block .entry)) code t r ⌝ }
 {
-    height_result(sheet::height(block, code, t))
+    height_result(api::height(block, code, t))
 }
 
 #[no_mangle]
 pub extern "C" fn juvrada_strip(block: &[u8], code: u8, out: &mut [f32]) -> StripResult
     ensures { λ r. ⌜ StripReturned (now (block .entry)) code (now (out .entry)) (now (out .exit)) r ⌝ }
 {
-    strip_result(sheet::strip(block, code, out))
+    strip_result(api::strip(block, code, out))
 }
 
 // The marks of an answer.
@@ -203,28 +203,28 @@ pub extern "C" fn juvrada_marks(
 ) -> CountResult
     ensures { λ r. ⌜ MarksReturned (marksAnswer (chosenOf (now (block .entry)) code)) (now (at .entry)) (now (at .exit)) (now (kind .entry)) (now (kind .exit)) r ⌝ }
 {
-    lay_marks(sheet::marks(block, code), at, kind)
+    lay_marks(api::marks(block, code), at, kind)
 }
 
 #[no_mangle]
 pub extern "C" fn juvrada_rest(block: &[u8], code: u8) -> RestResult
     ensures { λ r. ⌜ r ≡ restResult (restAnswer (chosenOf (now (block .entry)) code)) ⌝ }
 {
-    rest_result(sheet::rest(block, code))
+    rest_result(api::rest(block, code))
 }
 
 #[no_mangle]
 pub extern "C" fn juvrada_scale(block: &[u8], code: u8) -> ScaleResult
     ensures { λ r. ⌜ r ≡ scaleResult (scaleAnswer (chosenOf (now (block .entry)) code)) ⌝ }
 {
-    scale_result(sheet::scale(block, code))
+    scale_result(api::scale(block, code))
 }
 
 #[no_mangle]
 pub extern "C" fn juvrada_anchored(block: &[u8], code: u8) -> AnchoredResult
     ensures { λ r. ⌜ r ≡ anchoredResult (anchoredAnswer (chosenOf (now (block .entry)) code)) ⌝ }
 {
-    anchored_result(sheet::anchored(block, code))
+    anchored_result(api::anchored(block, code))
 }
 
 #[no_mangle]
@@ -235,7 +235,7 @@ pub extern "C" fn juvrada_settings(
 ) -> CountResult
     ensures { λ r. ⌜ (r ≡ settingsResult (settingsAnswer (chosenOf (now (block .entry)) code))) × (now (out .exit) ≡ settingsAfter (settingsAnswer (chosenOf (now (block .entry)) code)) (now (out .entry))) ⌝ }
 {
-    let answer = sheet::settings(block, code);
+    let answer = api::settings(block, code);
     match answer {
         SettingsAnswer::Settings(shape) => {
             let numbers = settings_numbers(shape);
@@ -256,7 +256,7 @@ pub extern "C" fn juvrada_settings(
 pub extern "C" fn juvrada_captions(block: &[u8], code: u8, out: &mut [u8]) -> u32
     ensures { λ r. ⌜ (r ≡ answerNumber (captionsAnswer (chosenOf (now (block .entry)) code) (length (now (out .entry))))) × (now (out .exit) ≡ captionsAfter (chosenOf (now (block .entry)) code) (now (out .entry))) ⌝ }
 {
-    answer_number(sheet::captions(block, code, out))
+    answer_number(api::captions(block, code, out))
 }
 
 // The gates or the bars of an answer.
@@ -285,7 +285,7 @@ pub extern "C" fn juvrada_gates(
 ) -> CountResult
     ensures { λ r. ⌜ GatesReturned (gatesAnswer (now (block .entry))) (now (start .entry)) (now (start .exit)) (now (end .entry)) (now (end .exit)) r ⌝ }
 {
-    lay_gates(sheet::gates(block), start, end)
+    lay_gates(api::gates(block), start, end)
 }
 
 #[no_mangle]
@@ -296,7 +296,7 @@ pub extern "C" fn juvrada_bars(
 ) -> CountResult
     ensures { λ r. ⌜ GatesReturned (barsAnswer (now (block .entry))) (now (start .entry)) (now (start .exit)) (now (end .entry)) (now (end .exit)) r ⌝ }
 {
-    lay_gates(sheet::bars(block), start, end)
+    lay_gates(api::bars(block), start, end)
 }
 
 // ---- taps
@@ -319,7 +319,7 @@ pub extern "C" fn juvrada_taps_height(
 ) -> HeightResult
     ensures { λ r. ⌜ TapsReturned (tapsOf (now (at .entry)) (now (tall .entry)) used) t r ⌝ }
 {
-    let h = sheet::taps_height(taps_of(at, tall, used), t);
+    let h = api::taps_height(taps_of(at, tall, used), t);
     height_result(HeightAnswer::Height(h))
 }
 

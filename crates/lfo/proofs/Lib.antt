@@ -1,11 +1,12 @@
--- The LFO's shapes are near the exact ones: an index's sample and a cycle's, what is exact and what is rounded, and the bound.
-pub mod Index
-pub mod Scaling
-pub mod Cycles
-pub mod Earlier
-pub mod Wrapped
-pub mod Shapes
-pub mod Blend
-pub mod Bounded
-pub mod DrawnPhase
-pub mod ShapeError
+-- The slew walk: the loop's count, the positions, the steps; a step's cost and the whole walk's, and the height's distance; heights held against the Rust.
+pub mod Counts
+pub mod Places
+pub mod Steps
+pub mod HeldStep
+pub mod ProductSign
+pub mod Advances
+pub mod MostError
+pub mod StepError
+pub mod WalkError
+pub mod LfoDrawn
+pub mod Examples

@@ -1,59 +1,41 @@
--- THE EXACT SHAPES: docs/SPECIFICATION.md, "Exact heights". Each is a function of the phase's value; nothing here is rounded. The samples are the numbers
--- that their floats hold. Definitions only.
-use mathlib.Core.Bool.{not, cond, _&&_}
-use Prim.Native.Nat.{ℕ}
-use lib.IntN.{ℤ, pos, natAbs, _-ℤ_, _*ℤ_}
-use lib.ListN.{getD}
-use Rattle.exact.specs.Fraction.{Fraction, ratio, floorOver, floorℚ, ltℚ, _+ℚ_, _-ℚ_, _*ℚ_}
+-- THE EXACT WALK: docs/SPECIFICATION.md, "Exact heights". The positions of the walk, the phase and the slew are the numbers that their floats hold; all else is a fraction. Definitions only.
+use mathlib.Core.Bool.{cond}
+use Prim.Native.Nat.{ℕ, zero, suc}
+use lib.Ieee.{Float, le}
+use Rattle.exact.specs.Fraction.{Fraction, ratio, negℚ, minℚ, maxℚ, unitℚ, _+ℚ_, _-ℚ_, _*ℚ_, _/ℚ_}
 use Rattle.exact.specs.Value.{value}
-use Rattle.exact.specs.Binary32.{half₃₂}
-use Rattle.math.specs.Series.{fractℚ, sinTurnsℚ}
+use Rattle.exact.specs.Binary32.{_⊗_, zero₃₂}
+use Rattle.math.specs.Formulas.{minOf}
+use Rattle.curve.specs.Curve.{positionOf}
 use Rattle.settings.specs.declared.LfoShape.{LfoShape}
-use Rattle.settings.specs.declared.LfoShape.the-variants.{Sine, Triangle, Square, RampUp, RampDown, SampleAndHold, SampleAndGlide}
-use Rattle.lfo.specs.Formula.{samples}
+use Rattle.settings.specs.declared.Lfo.{Lfo}
+use Rattle.lfo_shapes.specs.Exact.{shapeℚ}
+use Rattle.lfo.specs.Formula.{placeOf, fullSteps}
 
--- What a phase has above its floor, and 1 where the phase is above 0 and whole.
-abbrev pub wrapℚ : Fraction → Fraction
-wrapℚ P = cond (ltℚ (ratio 0 1) P && not (ltℚ (ratio 0 1) (fractℚ P))) (ratio 1 1) (fractℚ P)
+-- How far the level may move in a cycle.
+unfoldable pub limitℚ : Fraction → Fraction
+limitℚ slew = ratio 2 1 /ℚ slew
 
--- The remainder of a cycle's number by 8, from 0 to 7, and the sample that it names.
-abbrev pub remainder : ℤ → ℕ
-remainder z = natAbs (z -ℤ floorOver z 8 *ℤ pos 8)
+-- A clamp to -most..most.
+unfoldable pub heldℚ : Fraction → Fraction → Fraction
+heldℚ most d = maxℚ (negℚ most) (minℚ most d)
 
-unfoldable pub sampleℚ : ℤ → Fraction
-sampleℚ z = value (getD samples (remainder z) half₃₂)
+-- A step from one position to the next: the level goes toward the shape's, by at most the limit times the distance gone.
+unfoldable pub movedℚ : LfoShape → Fraction → Fraction → Fraction → Fraction → Fraction
+movedℚ s limit from to level = level +ℚ heldℚ (limit *ℚ (to -ℚ from)) (shapeℚ s to -ℚ level)
 
-abbrev pub sineℚ : Fraction → Fraction
-sineℚ P = ratio 1 2 +ℚ ratio 1 2 *ℚ sinTurnsℚ P
+-- The level after k full steps, from the shape's own at -1.
+unfoldable pub levelAfterℚ : LfoShape → Fraction → ℕ → Fraction
+levelAfterℚ s limit zero = shapeℚ s (value (placeOf 0))
+levelAfterℚ s limit (suc k) = movedℚ s limit (value (placeOf k)) (value (placeOf (suc k))) (levelAfterℚ s limit k)
 
-abbrev pub triangleℚ : Fraction → Fraction
-triangleℚ P = cond (ltℚ (wrapℚ P) (ratio 1 2)) (ratio 2 1 *ℚ wrapℚ P) (ratio 2 1 -ℚ ratio 2 1 *ℚ wrapℚ P)
+-- The level at a phase: k full steps, and one that is cut at the phase.
+unfoldable pub cutAfterℚ : LfoShape → Fraction → Float → ℕ → Fraction
+cutAfterℚ s limit phase k = movedℚ s limit (value (placeOf k)) (value (minOf (placeOf (suc k)) phase)) (levelAfterℚ s limit k)
 
-abbrev pub squareℚ : Fraction → Fraction
-squareℚ P = cond (ltℚ (wrapℚ P) (ratio 1 2)) (ratio 1 1) (ratio 0 1)
-
-abbrev pub rampUpℚ : Fraction → Fraction
-rampUpℚ P = wrapℚ P
-
-abbrev pub rampDownℚ : Fraction → Fraction
-rampDownℚ P = ratio 1 1 -ℚ wrapℚ P
-
-abbrev pub holdℚ : Fraction → Fraction
-holdℚ P = sampleℚ (floorℚ P)
-
--- From the sample of the cycle before, by the part of the cycle that has gone.
-abbrev pub previousℚ : Fraction → Fraction
-previousℚ P = sampleℚ (floorℚ P -ℤ pos 1)
-
-abbrev pub glideℚ : Fraction → Fraction
-glideℚ P = previousℚ P +ℚ (holdℚ P -ℚ previousℚ P) *ℚ fractℚ P
-
--- A shape's exact level at a phase, with no limit on its slope.
-unfoldable pub shapeℚ : LfoShape → Fraction → Fraction
-shapeℚ Sine P = sineℚ P
-shapeℚ Triangle P = triangleℚ P
-shapeℚ Square P = squareℚ P
-shapeℚ RampUp P = rampUpℚ P
-shapeℚ RampDown P = rampDownℚ P
-shapeℚ SampleAndHold P = holdℚ P
-shapeℚ SampleAndGlide P = glideℚ P
+-- The exact height of an LFO: the shape itself at slew 0.
+unfoldable pub lfoHeightℚ : Lfo → Float → Fraction
+lfoHeightℚ l t =
+    cond (le (l .slew) zero₃₂)
+    (unitℚ (shapeℚ (l .shape) (value (positionOf t ⊗ l .turns))))
+    (unitℚ (cutAfterℚ (l .shape) (limitℚ (value (l .slew))) (positionOf t ⊗ l .turns) (fullSteps (positionOf t ⊗ l .turns))))

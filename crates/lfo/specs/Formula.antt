@@ -1,71 +1,61 @@
--- THE LFO'S SHAPES IN BINARY32: docs/SPECIFICATION.md, "LFO". Each is a function of the phase, a number of cycles; each operation is rounded once, in the
--- order written. Definitions only.
-use mathlib.Core.Bool.{cond, _&&_}
-use mathlib.Core.List.{List, [], _∷_}
-use lib.ListN.{getD}
-use lib.Ieee.{Float, lt, le, toUnsigned}
-use Rattle.exact.specs.Binary32.{_⊕_, _⊖_, _⊗_, _⊘_, bits, zero₃₂, half₃₂, one₃₂}
-use Rattle.math.specs.Formulas.{clampOf, floorOf, fractOf, sinTurnsOf}
+-- THE SLEW WALK IN BINARY32: docs/SPECIFICATION.md, "The slew walk". Each operation is rounded once, in the order written. Definitions only.
+use mathlib.Core.Bool.{cond}
+use Prim.Native.Nat.{ℕ, zero, suc}
+use lib.IntN.{pos}
+use lib.Ieee.{Float, binary32, ofInt, neg, le}
+use Rattle.exact.specs.Binary32.{_⊕_, _⊖_, _⊗_, _⊘_, bits, zero₃₂, one₃₂}
+use Rattle.math.specs.Formulas.{minOf, clampOf}
+use Rattle.curve.specs.declared.Height.{Height}
+use Rattle.curve.specs.Curve.{unitOf, positionOf, drawnOf}
 use Rattle.settings.specs.declared.LfoShape.{LfoShape}
-use Rattle.settings.specs.declared.LfoShape.the-variants.{Sine, Triangle, Square, RampUp, RampDown, SampleAndHold, SampleAndGlide}
+use Rattle.settings.specs.declared.Lfo.{Lfo}
+use Rattle.lfo_shapes.specs.Formula.{shapeAtOf}
 
--- 2, 7 and 8
-abbrev pub two₃₂ : Float
-two₃₂ = bits 0x4000_0000
+-- The walk's step, 1 / 96 of a cycle.
+unfoldable pub stepOf : Float
+stepOf = one₃₂ ⊘ bits 0x42c0_0000
 
-abbrev pub seven₃₂ : Float
-seven₃₂ = bits 0x40e0_0000
+-- Where count k is placed: -1 + k / 96. It is placed by its count, never added up.
+unfoldable pub placeOf : ℕ → Float
+placeOf k = neg one₃₂ ⊕ ofInt binary32 (pos k) ⊗ stepOf
 
-abbrev pub eight₃₂ : Float
-eight₃₂ = bits 0x4100_0000
+-- How far the level may move in a cycle.
+unfoldable pub limitOf : Float → Float
+limitOf slew = bits 0x4000_0000 ⊘ slew
 
--- ---- where a phase falls within its cycle
--- Its part above the floor, and 1 where the phase is above 0 and whole: the end of a cycle is not the start of the next.
-unfoldable pub wrapOf : Float → Float
-wrapOf p = cond (lt zero₃₂ p && le (fractOf p) zero₃₂) one₃₂ (fractOf p)
+-- A step from one position to the next: the level goes toward the shape's, by at most the limit times the distance gone.
+unfoldable pub movedOf : LfoShape → Float → Float → Float → Float → Float
+movedOf s limit from to level = level ⊕ clampOf (neg (limit ⊗ (to ⊖ from))) (limit ⊗ (to ⊖ from)) (shapeAtOf s to ⊖ level)
 
--- ---- the samples: 0.72, 0.18, 0.95, 0.41, 0.08, 0.63, 0.31, 0.86
-unfoldable pub samples : List Float
-samples = bits 0x3f38_51ec ∷ bits 0x3e38_51ec ∷ bits 0x3f73_3333 ∷ bits 0x3ed1_eb85 ∷ bits 0x3da3_d70a ∷ bits 0x3f21_47ae ∷ bits 0x3e9e_b852 ∷ bits 0x3f5c_28f6 ∷ []
+-- The level after k full steps. It starts at -1 with the shape's own; no phase is in it.
+unfoldable pub levelAfter : LfoShape → Float → ℕ → Float
+levelAfter s limit zero = shapeAtOf s (neg one₃₂)
+levelAfter s limit (suc k) = movedOf s limit (placeOf k) (placeOf (suc k)) (levelAfter s limit k)
 
--- The sample that an index names, clamped to 0..7 and cut to a whole number. A NaN names the first.
-unfoldable pub sampleOf : Float → Float
-sampleOf x = getD samples (toUnsigned 64 (clampOf zero₃₂ seven₃₂ x)) half₃₂
+-- The level at a phase that count k + 1 reaches: k full steps, and one that is cut at the phase.
+unfoldable pub cutAfter : LfoShape → Float → Float → ℕ → Float
+cutAfter s limit phase k = movedOf s limit (placeOf k) (minOf (placeOf (suc k)) phase) (levelAfter s limit k)
 
--- A cycle's number less the eights below it.
-unfoldable pub indexOf : Float → Float
-indexOf c = c ⊖ floorOf (c ⊘ eight₃₂) ⊗ eight₃₂
+-- Of the counts from k + 1 on, n + 1 of them, the one before the first whose place reaches the phase, or before the last of them if there is none. No place reaches a NaN.
+unfoldable pub fullFrom : Float → ℕ → ℕ → ℕ
+fullFrom phase zero k = k
+fullFrom phase (suc n) k = cond (le phase (placeOf (suc k))) k (fullFrom phase n (suc k))
 
--- The sample of the cycle that a phase falls in.
-unfoldable pub sampledOf : Float → Float
-sampledOf p = sampleOf (indexOf (floorOf p))
+-- The full steps of a walk: counts go from 1 to 65,535.
+unfoldable pub fullSteps : Float → ℕ
+fullSteps phase = fullFrom phase 65534 0
 
--- ---- the shapes
-unfoldable pub sineOf : Float → Float
-sineOf p = half₃₂ ⊕ half₃₂ ⊗ sinTurnsOf p
+-- The height and the steps of a slewed LFO at a phase.
+unfoldable pub walkedOf : Lfo → Float → Height
+walkedOf l phase = record { height = unitOf (cutAfter (l .shape) (limitOf (l .slew)) phase (fullSteps phase)); steps = suc (fullSteps phase) }
 
-unfoldable pub triangleOf : Float → Float
-triangleOf p = cond (lt (wrapOf p) half₃₂) (wrapOf p ⊗ two₃₂) (two₃₂ ⊖ wrapOf p ⊗ two₃₂)
+-- The height of an LFO without slew, the shape itself, and of one with slew.
+abbrev pub unslewedOf : Lfo → Float → Height
+unslewedOf l t = drawnOf (shapeAtOf (l .shape) (positionOf t ⊗ l .turns))
 
-unfoldable pub squareOf : Float → Float
-squareOf p = cond (lt (wrapOf p) half₃₂) one₃₂ zero₃₂
+abbrev pub slewedOf : Lfo → Float → Height
+slewedOf l t = walkedOf l (positionOf t ⊗ l .turns)
 
-unfoldable pub rampUpOf : Float → Float
-rampUpOf p = wrapOf p
-
-unfoldable pub rampDownOf : Float → Float
-rampDownOf p = one₃₂ ⊖ wrapOf p
-
--- From the sample of the cycle before to that of this cycle.
-unfoldable pub glideOf : Float → Float
-glideOf p = sampledOf (p ⊖ one₃₂) ⊕ (sampledOf p ⊖ sampledOf (p ⊖ one₃₂)) ⊗ fractOf p
-
--- A shape's level at a phase, with no limit on its slope.
-unfoldable pub shapeAtOf : LfoShape → Float → Float
-shapeAtOf Sine p = sineOf p
-shapeAtOf Triangle p = triangleOf p
-shapeAtOf Square p = squareOf p
-shapeAtOf RampUp p = rampUpOf p
-shapeAtOf RampDown p = rampDownOf p
-shapeAtOf SampleAndHold p = sampledOf p
-shapeAtOf SampleAndGlide p = glideOf p
+-- The height of an LFO. One that is not slewed has no steps.
+unfoldable pub lfoHeightOf : Lfo → Float → Height
+lfoHeightOf l t = cond (le (l .slew) zero₃₂) (unslewedOf l t) (slewedOf l t)

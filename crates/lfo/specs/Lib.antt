@@ -1,3 +1,4 @@
--- The LFO's shapes, in binary32 and exactly.
+-- The slew walk, in binary32 and exactly, and its steps.
 pub mod Formula
 pub mod Exact
+pub mod Steps

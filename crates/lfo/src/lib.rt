@@ -1,110 +1,88 @@
-// The LFO's shapes, by the phase: a number of cycles.
+// The slew walk of an LFO.
 ghost use mathlib.Core.Path.{_≡_};
-ghost use Rattle.lfo.specs.Formula.{wrapOf, sampleOf, sampledOf, sineOf, triangleOf, squareOf, rampDownOf, glideOf, shapeAtOf};
-use math::floor;
-use math::fract;
-use math::sin_turns;
+ghost use Rattle.lfo.specs.Formula.{placeOf, movedOf, walkedOf, unslewedOf, slewedOf, lfoHeightOf};
+use curve::Height;
+use curve::drawn;
+use curve::position;
+use curve::unit;
+use lfo_shapes::shape_at;
+use math::clamp;
+use math::min;
+use settings::Lfo;
 use settings::LfoShape;
 
-// Where the phase falls within its cycle. At the end of a cycle it is 1, and not the 0 of the next.
-fn wrap(phase: f32) -> f32
-    ensures { λ r. ⌜ r ≡ wrapOf phase ⌝ }
+// A walk starts a cycle before the curve does.
+const START: f32 = -1.0;
+
+// It takes 96 steps a cycle.
+const STEP: f32 = 1.0 / 96.0;
+
+// The count of the last step that a walk may take.
+const LAST: u16 = 65535;
+
+// Where a count's step ends.
+fn place(count: u16) -> f32
+    ensures { λ r. ⌜ r ≡ placeOf count ⌝ }
 {
-    let within = fract(phase);
-    if phase > 0.0 {
-        if within <= 0.0 {
-            return 1.0;
+    START + count as f32 * STEP
+}
+
+// A step from one position to the next: toward the shape's level there, by no more than the limit allows over that distance.
+fn moved(shape: LfoShape, limit: f32, from: f32, to: f32, level: f32) -> f32
+    ensures { λ r. ⌜ r ≡ movedOf shape limit from to level ⌝ }
+{
+    let most = limit * (to - from);
+    level + clamp(shape_at(shape, to) - level, -most, most)
+}
+
+// The height at a phase, of a walk whose last step is cut there.
+fn walked(lfo: Lfo, phase: f32) -> Height
+    ensures { λ r. ⌜ r ≡ walkedOf lfo phase ⌝ }
+{
+    let shape = lfo.shape;
+    let limit = 2.0 / lfo.slew;
+    let mut level = shape_at(shape, START);
+    let mut previous = START;
+    let mut count: u16 = 1;
+    while count < LAST {
+        let at = place(count);
+        if phase <= at {
+            break;
         }
+        level = moved(shape, limit, previous, at, level);
+        previous = at;
+        count = count + 1;
     }
-    within
-}
-
-// The sample that an index of 0 to 7 names. Below that it is the first, and so it is for a NaN; above it is the last.
-fn sample(index: f32) -> f32
-    ensures { λ r. ⌜ r ≡ sampleOf index ⌝ }
-{
-    if index >= 4.0 {
-        if index >= 6.0 {
-            if index >= 7.0 {
-                return 0.86;
-            }
-            return 0.31;
-        }
-        if index >= 5.0 {
-            return 0.63;
-        }
-        return 0.08;
+    let at = min(place(count), phase);
+    let end = moved(shape, limit, previous, at, level);
+    let steps = count as u32;
+    Height {
+        height: unit(end),
+        steps,
     }
-    if index >= 2.0 {
-        if index >= 3.0 {
-            return 0.41;
-        }
-        return 0.95;
+}
+
+// The height of an LFO without slew: the shape itself, with no steps.
+pub fn unslewed_height(lfo: Lfo, t: f32) -> Height
+    ensures { λ r. ⌜ r ≡ unslewedOf lfo t ⌝ }
+{
+    let shape = lfo.shape;
+    drawn(shape_at(shape, position(t) * lfo.turns))
+}
+
+// The height of an LFO with slew.
+pub fn slewed_height(lfo: Lfo, t: f32) -> Height
+    ensures { λ r. ⌜ r ≡ slewedOf lfo t ⌝ }
+{
+    walked(lfo, position(t) * lfo.turns)
+}
+
+// The height of an LFO.
+pub fn lfo_height(lfo: Lfo, t: f32) -> Height
+    ensures { λ r. ⌜ r ≡ lfoHeightOf lfo t ⌝ }
+{
+    if lfo.slew <= 0.0 {
+        return unslewed_height(lfo, t);
     }
-    if index >= 1.0 {
-        return 0.18;
-    }
-    0.72
-}
-
-// The sample of the cycle that the phase falls in: the eight repeat.
-fn sampled(phase: f32) -> f32
-    ensures { λ r. ⌜ r ≡ sampledOf phase ⌝ }
-{
-    let cycle = floor(phase);
-    sample(cycle - floor(cycle / 8.0) * 8.0)
-}
-
-fn lfo_sine(phase: f32) -> f32
-    ensures { λ r. ⌜ r ≡ sineOf phase ⌝ }
-{
-    0.5 + 0.5 * sin_turns(phase)
-}
-
-fn triangle(phase: f32) -> f32
-    ensures { λ r. ⌜ r ≡ triangleOf phase ⌝ }
-{
-    let within = wrap(phase);
-    if within < 0.5 {
-        return within * 2.0;
-    }
-    2.0 - within * 2.0
-}
-
-fn square(phase: f32) -> f32
-    ensures { λ r. ⌜ r ≡ squareOf phase ⌝ }
-{
-    if wrap(phase) < 0.5 {
-        return 1.0;
-    }
-    0.0
-}
-
-fn ramp_down(phase: f32) -> f32
-    ensures { λ r. ⌜ r ≡ rampDownOf phase ⌝ }
-{
-    1.0 - wrap(phase)
-}
-
-// From the sample of the cycle before to that of this cycle.
-fn glide(phase: f32) -> f32
-    ensures { λ r. ⌜ r ≡ glideOf phase ⌝ }
-{
-    let previous = sampled(phase - 1.0);
-    previous + (sampled(phase) - previous) * fract(phase)
-}
-
-// The shape's level at a phase, with no limit on its slope.
-pub fn shape_at(shape: LfoShape, phase: f32) -> f32
-    ensures { λ r. ⌜ r ≡ shapeAtOf shape phase ⌝ }
-{
-    match shape {
-        LfoShape::Sine => lfo_sine(phase),
-        LfoShape::Triangle => triangle(phase),
-        LfoShape::Square => square(phase),
-        LfoShape::RampUp => wrap(phase),
-        LfoShape::RampDown => ramp_down(phase),
-        LfoShape::SampleAndHold => sampled(phase),
-        LfoShape::SampleAndGlide => glide(phase),
-    }
+    slewed_height(lfo, t)
 }

@@ -9,7 +9,7 @@ use Rattle.exact.specs.Value.{value}
 use Rattle.exact.specs.Binary32.{_⊖_, _⊘_, bits, quarter₃₂}
 use Rattle.math.specs.Horner.{horner}
 use Rattle.math.specs.Formulas.{clampOf, floorOf, fractOf, scaleOf, exp2Coefficients, exp2Within, exp2Of}
-use Rattle.math.proofs.Every.{every, each}
+use Rattle.lists.proofs.Every.{every, each}
 
 -- 128 and 64, as floats
 abbrev pub bend : ℕ → Float

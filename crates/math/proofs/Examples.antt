@@ -1,5 +1,5 @@
 -- THE FORMULAS HELD AGAINST THE RUST. A row is the bits of the input or of the two inputs, then the bits of the result. Assumes nothing.
--- Every row was printed by compare/math/run, built with rustc 1.95.0 over the unchanged math.rs (deepmind-midi, commit a25f50498d);
+-- Every row was printed by reference/math/run, built with rustc 1.95.0 over the unchanged math.rs (deepmind-midi, commit a25f50498d);
 -- min, max, clamp and abs are Rust's own of f32. A NaN is written 0x7fc0_0000 in both.
 -- Left out for the sign of a zero: min and max of two zeros, one or both -0 (Rust gives either of the two, we give +0), and -0 clamped to 0..1 (open in Rust, we give -0).
 use mathlib.Core.Bool.{Bool, true, false}
@@ -7,17 +7,11 @@ use mathlib.Core.List.{List, [], _∷_}
 use Prim.Native.Nat.{ℕ}
 use lib.Dec.{T, eqb}
 use lib.Ieee.{Float, binary32, ofBits, toBits, ofInt, add, sub, mul, div, neg, lt, eq, isNan}
+use Rattle.lists.proofs.Rows.{allPass}
 use Rattle.exact.specs.Value.{value}
 use Rattle.exact.specs.Binary32.{bits, zero₃₂, one₃₂}
 use Rattle.math.specs.Horner.{horner}
-use Rattle.math.specs.Formulas.{minOf, maxOf, clampOf, absOf, floorOf, fractOf}
-use Rattle.math.specs.Formulas.{exp2Of, exp2Within, exp2Coefficients, scaleOf, log2Of, log2Bits, log2Mantissa, log2Series, log2Coefficients}
-use Rattle.math.specs.Formulas.{sinTurnsOf, sineOfCycle, sineOfQuarter, sineOfAngle, sineCoefficients, halfOf, quarterOf, signOf}
-
--- Every row passes the test. The `elim` goes on only after a row that does: `_&&_` would compute both sides.
-unfoldable pub allPass : {Row : Type 0} → (Row → Bool) → List Row → Bool
-allPass test [] = true
-allPass test (r ∷ rs) = elim (test r) [ true ↦ allPass test rs | false ↦ false ]
+use Rattle.math.specs.Formulas.{minOf, maxOf, clampOf, absOf, floorOf, fractOf, exp2Of, exp2Within, exp2Coefficients, scaleOf, log2Of, log2Bits, log2Mantissa, log2Series, log2Coefficients, sinTurnsOf, sineOfCycle, sineOfQuarter, sineOfAngle, sineCoefficients, halfOf, quarterOf, signOf}
 
 -- f at the row's input, or at its two, has the row's bits.
 gives : (Float → Float) → ℕ × ℕ → Bool

@@ -1,5 +1,5 @@
 -- THE EXACT SERIES HELD AGAINST OUTSIDE NUMBERS. Assumes nothing.
--- Every row was printed by compare/math/exact.py (mpmath 1.3.0 at 60 digits). A row of a series is the point, the function itself there,
+-- Every row was printed by reference/math/exact.py (mpmath 1.3.0 at 60 digits). A row of a series is the point, the function itself there,
 -- and the series of docs/SPECIFICATION.md summed apart from ours; both numbers are rounded to 40 decimals.
 use mathlib.Core.Bool.{Bool, _&&_}
 use mathlib.Core.List.{List, [], _∷_}
@@ -9,9 +9,8 @@ use lib.Signed.{leZ}
 use lib.Dec.{T}
 use Rattle.exact.specs.Fraction.{Fraction, ratio, floorℚ, ltℚ, negℚ, absℚ, _-ℚ_, _*ℚ_}
 use Rattle.math.specs.Horner.{hornerℚ}
-use Rattle.math.specs.Series.{terms, factorial, sinTurnsℚ, sineOfCycleℚ, sineOfQuarterℚ, sineOfAngleℚ, sineTerms, sineTerm}
-use Rattle.math.specs.Series.{exp2ℚ, exp2Terms, exp2Term, log2ℚ, log2Over, log2At, log2Mantissaℚ, log2Seriesℚ, log2Terms, log2Term, exponentOf}
-use Rattle.math.proofs.Examples.{allPass}
+use Rattle.math.specs.Series.{terms, factorial, sinTurnsℚ, sineOfCycleℚ, sineOfQuarterℚ, sineOfAngleℚ, sineTerms, sineTerm, exp2ℚ, exp2Terms, exp2Term, log2ℚ, log2Over, log2At, log2Mantissaℚ, log2Seriesℚ, log2Terms, log2Term, exponentOf}
+use Rattle.lists.proofs.Rows.{allPass}
 
 -- n units of the fortieth decimal
 decimal : ℕ → Fraction

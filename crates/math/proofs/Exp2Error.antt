@@ -27,7 +27,8 @@ use Rattle.math.specs.Horner.{horner, hornerℚ}
 use Rattle.math.specs.Formulas.{clampOf, floorOf, fractOf, scaleOf, exp2Coefficients, exp2Within, exp2Of}
 use Rattle.math.specs.Series.{terms, factorial, exp2Term, exp2Terms, exp2ℚ}
 use Rattle.math.proofs.SeriesExpr.{polynomial, exactly, nearestTo}
-use Rattle.math.proofs.Every.{every, everyWhole, eachWhole}
+use Rattle.lists.proofs.Every.{every}
+use Rattle.math.proofs.Every.{everyWhole, eachWhole}
 
 -- ---- THE THREE STAGES
 -- s between its floor and the next whole number

@@ -30,7 +30,7 @@ use Rattle.math.specs.Horner.{horner, hornerℚ}
 use Rattle.math.specs.Formulas.{log2Coefficients, log2Series, log2Mantissa, log2Bits, log2Of}
 use Rattle.math.specs.Series.{terms, log2Term, log2Terms, twoOverLog, log2Seriesℚ, log2Mantissaℚ, exponentOf, log2At, log2Over, log2ℚ}
 use Rattle.math.proofs.SeriesExpr.{polynomial, exactly, nearestTo}
-use Rattle.math.proofs.Every.{every, each}
+use Rattle.lists.proofs.Every.{every, each}
 use Rattle.math.proofs.Bits.{pow-less}
 use Rattle.math.proofs.Mantissa.{Scaled, scaled, mantissaOf, exponentOfBits, field-from-127}
 

@@ -18,7 +18,7 @@ use Rattle.exact.specs.Fraction.{floorOver, floorℚ}
 use Rattle.exact.specs.Value.{value}
 use Rattle.exact.specs.Binary32.{bits}
 use Rattle.math.specs.Formulas.{clampOf, floorOf, scaleOf}
-use Rattle.math.proofs.Every.{every, each}
+use Rattle.lists.proofs.Every.{every, each}
 
 -- ---- the field of z, as an i32 and as a u32
 abbrev sum : ℤ → ℤ

@@ -4,7 +4,7 @@ use mathlib.Core.List.{List, [], _++_}
 use Prim.Native.Nat.{ℕ, zero, suc, _-_}
 use lib.Dec.{eqb}
 use lib.ListN.{length, take, drop}
-use Rattle.block.specs.Codes.{byteAt, blockLength, gatesByte}
+use Rattle.codes.specs.Bytes.{byteAt, gatesByte, blockLength}
 use Rattle.text.specs.Text.{ascii}
 use Rattle.text.specs.Escaped.{escapedAll}
 use Rattle.page.specs.Panels.{panelsText, arpeggioText}
@@ -19,8 +19,8 @@ endFrom block (suc n) i = cond (eqb (byteAt block i) 0) i (endFrom block n (suc 
 unfoldable pub nameEnd : List ℕ → ℕ
 nameEnd block = endFrom block 17 223
 
-abbrev pub nameOf : List ℕ → List ℕ
-nameOf block = take (nameEnd block - 223) (drop 223 block)
+abbrev pub programName : List ℕ → List ℕ
+programName block = take (nameEnd block - 223) (drop 223 block)
 
 -- ---- head and foot
 -- The document's start, and the styles of texts (h head, n name, t title, d dial, b its byte, m word of a mark) and of lines (f frame, r rest, v mark, c curve, u older curve, g bar).
@@ -41,7 +41,7 @@ footText =
 
 -- ---- the whole
 unfoldable pub pageOf : List ℕ → List ℕ → List ℕ
-pageOf older block = styleText ++ headText (nameOf block) ++ panelsText older block 14 ++ arpeggioText (byteAt block gatesByte) ++ footText
+pageOf older block = styleText ++ headText (programName block) ++ panelsText older block 14 ++ arpeggioText (byteAt block gatesByte) ++ footText
 
 -- A block of another length has no page. An older block of another length has no curves.
 unfoldable pub pageText : List ℕ → List ℕ → List ℕ

@@ -8,17 +8,17 @@ use Rattle.generator.specs.declared.Generator.{Generator}
 use Rattle.generator.specs.Generator.{restOf, anchoredOf}
 use Rattle.generator.specs.Marks.{marksOf}
 use Rattle.generator.specs.Gates.{gatesOf}
-use Rattle.block.specs.declared.CodeRead.{CodeRead}
-use Rattle.block.specs.declared.CodeRead.the-variants.{Known, Above}
+use Rattle.codes.specs.declared.CodeRead.{CodeRead}
+use Rattle.codes.specs.declared.CodeRead.the-variants.{Known, Above}
 use Rattle.block.specs.declared.Chosen.{Chosen}
 use Rattle.block.specs.declared.Chosen.the-variants.{Generator as AGenerator, Refused}
-use Rattle.block.specs.Codes.{codeOf}
+use Rattle.codes.specs.Codes.{codeOf}
 use Rattle.block.specs.Refusals.{chosenOf}
 use Rattle.bars.specs.Bars.{barsOf}
 use Rattle.strip.specs.Strip.{stripOf}
 use Rattle.text.specs.Text.{ascii}
 use Rattle.text.specs.Spelled.{decimalOf}
-use Rattle.names.specs.Names.{titleOf}
+use Rattle.labels.specs.Names.{titleOf}
 use Rattle.dials.specs.Dials.{dialsText, onlyDial}
 use Rattle.panel.specs.Labels.{subtitleText}
 use Rattle.panel.specs.Pieces.{titleText, frameText, restText, marksText, curveText, beneathText, barsText, stepsText}

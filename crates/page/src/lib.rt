@@ -3,19 +3,20 @@ ghost use mathlib.Core.Path.{_≡_};
 ghost use Prim.Native.Nat.{_<_, _≤_};
 ghost use lib.ListN.{length};
 ghost use Rattle.text.specs.Text.{Puts};
-ghost use Rattle.block.specs.Codes.{codeOf, blockLength};
+ghost use Rattle.codes.specs.Codes.{codeOf};
+ghost use Rattle.codes.specs.Bytes.{blockLength};
 ghost use Rattle.block.specs.Refusals.{chosenOf};
 ghost use Rattle.strip.specs.Strip.{stripOf};
 ghost use Rattle.panel.specs.Pieces.{titleText, beneathText};
-ghost use Rattle.names.specs.Names.{titleOf};
+ghost use Rattle.labels.specs.Names.{titleOf};
 ghost use Rattle.page.specs.Panels.{placeText, panelEnd, blank, drawnText, chosenText, olderText, codeText, panelText, panelsText, arpeggioText};
 ghost use Rattle.page.specs.Page.{nameEnd, styleText, headText, footText, pageOf, pageText};
 use block::BLOCK;
 use block::Chosen;
-use block::Code;
-use block::CodeRead;
 use block::choose;
-use block::code_from;
+use codes::Code;
+use codes::CodeRead;
+use codes::code_from;
 use generator::Generator;
 use panel::SAMPLES;
 use panel::put_frame;
@@ -38,7 +39,7 @@ fn put_name(out: &mut [u8], at: usize, code: Code) -> usize
     ensures { λ r. ⌜ Puts (now (out .entry)) at (titleText (titleOf code)) (now (out .exit)) r ⌝ }
 {
     let mut next = put(out, at, b"<text class='t' y='-2930'>");
-    next = names::put_title(out, next, code);
+    next = labels::put_title(out, next, code);
     put(out, next, b"</text>")
 }
 

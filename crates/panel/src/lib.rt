@@ -5,6 +5,7 @@ ghost use lib.ListN.{length};
 ghost use Rattle.text.specs.Text.{Puts};
 ghost use Rattle.panel.specs.Labels.{wholeOf, turnsText, scaleText, edgeText, subtitleText, segmentText, kindText, rowOf};
 ghost use Rattle.panel.specs.Pieces.{frameText, titleText, restText, pointText, pointsText, lineText, curveText, beneathText, ruleText, labelText, markText, marksText, barText, barsText, stepsText};
+use fixed_point::nearest;
 use generator::GATES_DRAWN;
 use generator::Gate;
 use generator::Gates;
@@ -14,7 +15,6 @@ use generator::MarkKind;
 use generator::Marks;
 use generator::Scale;
 use generator::Segment;
-use scaled::nearest;
 use text::put;
 use text::put_decimal;
 

@@ -7,7 +7,7 @@ use lib.ListN.{length, getD}
 use lib.Ieee.{Float, nan, binary32, toBits}
 use Rattle.text.specs.Text.{ascii}
 use Rattle.text.specs.Spelled.{hexOf, fixedOf}
-use Rattle.scaled.specs.Scaled.{nearestOf}
+use Rattle.fixed_point.specs.Nearest.{nearestOf}
 use Rattle.strip.specs.Strip.{sampleOf}
 
 -- A number from 0 to 1 in nine places.

@@ -5,12 +5,12 @@ ghost use lib.ListN.{length};
 ghost use Rattle.text.specs.Text.{Puts};
 ghost use Rattle.rows.specs.Rows.{ninePlaces, decimalsText, rowText, sampleText, someRows, rowsText};
 ghost use Rattle.rows.specs.Reading.{readOf};
-use scaled::nearest;
+use fixed_point::nearest;
+use float_bits::word_of;
 use strip::sample_position;
 use text::put;
 use text::put_fixed;
 use text::put_hex;
-use words::word_of;
 
 // The most samples whose numbers fit 16 bits.
 const MAX_ROWS: usize = 65536;

@@ -15,7 +15,7 @@ use Rattle.exact.specs.Binary32.{_⊕_, _⊘_, bits, zero₃₂, half₃₂, on
 use Rattle.exact.proofs.Close.{ring}
 use Rattle.exact.proofs.Order.{le-trans}
 use Rattle.exact.proofs.Monotone.{unsigned, unsigned-finite, le-cross, le-self, le-either, positive-above, add-mono, add-unsigned, add-from-left, add-from-right, div-at-most, div-unsigned}
-use Rattle.math.proofs.Every.{every, each}
+use Rattle.lists.proofs.Every.{every, each}
 use Rattle.settings.specs.Settings.{byteOf, totalOf}
 use Rattle.settings.proofs.Bytes.{unit-unsigned, unit-to-one, from-zero, byte-unit, byte-holds}
 

@@ -1,5 +1,5 @@
 -- THE SETTINGS HELD AGAINST THE RUST. A row is the bytes, then what they give: a float by its bits, a switch as 0 or 1. Assumes nothing.
--- Every row was printed by compare/settings/run, built with rustc 1.95.0 over the unchanged math.rs and generator.rs
+-- Every row was printed by reference/settings/run, built with rustc 1.95.0 over the unchanged math.rs and generator.rs
 -- (deepmind-midi, commit a25f50498d).
 use mathlib.Core.Bool.{Bool, true, false, cond, _&&_}
 use mathlib.Core.List.{List, [], _∷_}
@@ -9,7 +9,7 @@ use lib.Ieee.{Float, binary32, ofBits, toBits, ofInt, add, sub, mul, div, neg, l
 use Rattle.exact.specs.Value.{value}
 use Rattle.math.specs.Horner.{horner}
 use Rattle.math.specs.Formulas.{clampOf, floorOf, fractOf, scaleOf, exp2Coefficients, exp2Within, exp2Of}
-use Rattle.math.proofs.Examples.{allPass}
+use Rattle.lists.proofs.Rows.{allPass}
 use Rattle.settings.specs.declared.LfoShape.{LfoShape}
 use Rattle.settings.specs.declared.LfoShape.the-variants.{Sine, Triangle, Square, RampUp, RampDown, SampleAndHold, SampleAndGlide}
 use Rattle.settings.specs.declared.Pass.{Pass}

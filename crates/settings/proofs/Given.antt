@@ -6,7 +6,7 @@ use lib.Dec.{T, eqb}
 use lib.Ieee.{Float, binary32, ofBits, ofInt, fits, lt, add, mul, div}
 use lib.Ieee.Fits.{and-l, and-r, add-fits, mul-fits, div-fits}
 use Rattle.exact.specs.Binary32.{_⊕_, _⊘_, bits, zero₃₂, half₃₂, one₃₂}
-use Rattle.math.proofs.Every.{every, each}
+use Rattle.lists.proofs.Every.{every, each}
 use Rattle.curve.proofs.Positions.{Level}
 use Rattle.settings.specs.Settings.{byteOf, firstOf, secondOf, thirdOf, envelopeOf, lfoOf, fadeOf, poleSlopeOf, lowPassOf, highPassOf, isManual, depthOf, widthOf, sweepOf, oscillatorOneOf, oscillatorTwoOf, noiseOf}
 use Rattle.settings.proofs.Ranges.{EnvelopeRange, LfoRange, FadeRange, Slope, six, twelve, twenty-four, FilterRange, OscillatorRange, NoiseRange}

@@ -9,7 +9,7 @@ use lib.Ieee.Fits.{and-l, and-r, add-fits, sub-fits, mul-fits}
 use Rattle.exact.specs.Binary32.{_⊕_, _⊖_, _⊗_, zero₃₂, one₃₂}
 use Rattle.exact.proofs.Order.{le-trans}
 use Rattle.exact.proofs.Monotone.{unsigned, unsigned-finite, le-self, add-mono, add-unsigned, mul-to-left, mul-unsigned}
-use Rattle.math.proofs.Every.{every, each}
+use Rattle.lists.proofs.Every.{every, each}
 use Rattle.curve.proofs.Positions.{Level}
 use Rattle.settings.specs.Settings.{byteOf, slopeOf, sloped, sustainEndOf}
 use Rattle.settings.proofs.Bytes.{unit, unit-unsigned, unit-size, unit-to-one, from-zero, byte-unit, byte-holds}

@@ -8,15 +8,16 @@ use lib.Ieee.{binary32, ofBits, toBits, ofInt, isNan, lt, le, eq, neg, add, sub,
 use Rattle.exact.specs.Value.{value}
 use Rattle.exact.specs.Binary32.{zero₃₂, half₃₂, one₃₂}
 use Rattle.math.specs.Formulas.{clampOf, floorOf, fractOf}
-use Rattle.math.proofs.Examples.{allPass}
+use Rattle.lists.proofs.Rows.{allPass}
 use Rattle.curve.specs.Curve.{positionOf, drawnOf}
 use Rattle.settings.specs.Settings.{byteOf, shapeOf, turnsOf, lfoOf}
-use Rattle.lfo.specs.Formula.{wrapOf, triangleOf, shapeAtOf}
-use Rattle.walk.specs.Formula.{stepOf, placeOf, fullFrom, fullSteps, walkedOf, lfoHeightOf}
+use Rattle.lfo_shapes.specs.Formula.{wrapOf, triangleOf, shapeAtOf}
+use Rattle.lfo.specs.Formula.{stepOf, placeOf, fullFrom, fullSteps, walkedOf, lfoHeightOf}
 use Rattle.generator.specs.declared.Shape.{Shape}
 use Rattle.generator.specs.declared.Shape.the-variants.{Lfo as AnLfo}
 use Rattle.generator.specs.Heights.{heightOf}
-use Rattle.strip.specs.Strip.{sampleOf, lengthFits, written, stepSum, stepsOf, stripOf}
+use Rattle.strip.specs.Strip.{sampleOf, lengthFits, stepSum, stepsOf, stripOf}
+use Rattle.lists.specs.Written.{written}
 
 -- ---- sample i of n, and the bits of its position
 placed : ℕ × ℕ × ℕ → Bool

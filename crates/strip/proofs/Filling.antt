@@ -11,7 +11,7 @@ use Rattle.curve.specs.declared.Height.{Height}
 use Rattle.generator.specs.declared.Shape.{Shape}
 use Rattle.generator.specs.Heights.{heightOf}
 use Rattle.strip.specs.Strip.{partOf, sampleOf, lengthFits, filledOf, stepSum, stepsOf, stripOf}
-use Rattle.strip.proofs.Written.{written-next}
+use Rattle.lists.proofs.Written.{written-next}
 use Rattle.strip.proofs.Laws.{height-steps, sum-at-most}
 
 module _ (s : Shape) (n i : ℕ) where

@@ -10,14 +10,16 @@ use Rattle.exact.specs.Binary32.{_⊗_, zero₃₂}
 use Rattle.curve.specs.declared.Height.{Height}
 use Rattle.curve.specs.Curve.{positionOf, drawnOf}
 use Rattle.envelope.specs.Formula as envelope
-use Rattle.simple.specs.Formula.{fadeHeightOf, oscillatorHeightOf, noiseHeightOf}
+use Rattle.fade.specs.Formula.{fadeHeightOf}
+use Rattle.oscillator.specs.Formula.{oscillatorHeightOf}
+use Rattle.noise.specs.Formula.{noiseHeightOf}
 use Rattle.filter.specs.Formula as filter
-use Rattle.walk.specs.Formula.{placeOf, fullFrom, fullSteps, walkedOf, lfoHeightOf}
+use Rattle.lfo.specs.Formula.{placeOf, fullFrom, fullSteps, walkedOf, lfoHeightOf}
 use Rattle.generator.specs.declared.Shape.{Shape}
 use Rattle.generator.specs.declared.Shape.the-variants.{Envelope as AnEnvelope, Fade as AFade, Lfo as AnLfo, Filter as AFilter, Oscillator as AnOscillator, Noise as ANoise}
 use Rattle.generator.specs.Heights.{heightOf}
 use Rattle.strip.specs.Strip.{sampleOf, filledOf, stepSum}
-use Rattle.strip.proofs.Written.{written-length, written-at}
+use Rattle.lists.proofs.Written.{written-length, written-at}
 
 -- ---- the steps of one height, whatever the settings and the position
 full-at-most : (phase : Float) (n k : ℕ) → fullFrom phase n k ≤ n + k

@@ -5,7 +5,7 @@ use lib.Ieee.{Float, le}
 use Rattle.exact.specs.Binary32.{zero₃₂}
 use Rattle.curve.specs.Curve.{drawnOf}
 use Rattle.settings.specs.declared.Lfo.{Lfo}
-use Rattle.walk.specs.Formula.{unslewedOf, slewedOf, lfoHeightOf}
+use Rattle.lfo.specs.Formula.{unslewedOf, slewedOf, lfoHeightOf}
 use Rattle.generator.specs.declared.Shape.the-variants.{Lfo as AnLfo}
 use Rattle.generator.specs.Heights.{heightOf}
 

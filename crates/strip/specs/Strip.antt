@@ -4,8 +4,9 @@ use mathlib.Core.List.{List}
 use Prim.Native.Nat.{ℕ, zero, suc, _+_, _-_}
 use lib.Dec.{leb}
 use lib.IntN.{pos}
-use lib.ListN.{length, set}
+use lib.ListN.{length}
 use lib.Ieee.{Float, binary32, ofInt}
+use Rattle.lists.specs.Written.{written}
 use Rattle.exact.specs.Binary32.{_⊘_}
 use Rattle.generator.specs.declared.Shape.{Shape}
 use Rattle.generator.specs.Heights.{heightOf}
@@ -21,11 +22,6 @@ sampleOf n i = partOf i (n - 1)
 -- The lengths of a strip: 2 to 4,096.
 abbrev pub lengthFits : ℕ → Bool
 lengthFits n = leb 2 n && leb n 4096
-
--- A slice with its first k elements written: number i holds f i.
-unfoldable pub written : {A : Type 0} → (ℕ → A) → ℕ → List A → List A
-written f zero xs = xs
-written f (suc k) xs = set (written f k xs) k (f k)
 
 -- A strip with the first k of n samples written: sample i holds the height at its own position.
 abbrev pub filledOf : Shape → ℕ → ℕ → List Float → List Float

@@ -7,21 +7,21 @@ ghost use lib.Ieee.{le};
 ghost use Rattle.exact.specs.Binary32.{zero₃₂};
 ghost use Rattle.strip.specs.Strip.{partOf, lengthFits, stepsOf, stripOf};
 use envelope::envelope_height;
+use fade::fade_height;
 use filter::filter_height;
 use generator::Generator;
 use generator::Shape;
+use lfo::slewed_height;
+use lfo::unslewed_height;
 use math::from_u16;
+use noise::noise_height;
+use oscillator::oscillator_height;
 use settings::Envelope;
 use settings::Fade;
 use settings::Filter;
 use settings::Lfo;
 use settings::Noise;
 use settings::Oscillator;
-use simple::fade_height;
-use simple::noise_height;
-use simple::oscillator_height;
-use walk::slewed_height;
-use walk::unslewed_height;
 
 // The shortest strip and the longest.
 pub const MIN_SAMPLES: usize = 2;

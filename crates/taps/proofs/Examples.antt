@@ -10,7 +10,7 @@ use lib.Ieee.{Float, binary32, ofBits, toBits, fits, isNan, lt, le, eq, add, sub
 use lib.Ieee.Scale.{finite}
 use Rattle.exact.specs.Binary32.{bits}
 use Rattle.math.specs.Formulas.{absOf, maxOf, clampOf}
-use Rattle.math.proofs.Examples.{allPass}
+use Rattle.lists.proofs.Rows.{allPass}
 use Rattle.curve.specs.Curve.{positionOf, drawnOf}
 use Rattle.curve.proofs.Positions.{Level}
 use Rattle.generator.specs.declared.Mark.{Mark}

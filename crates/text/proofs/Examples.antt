@@ -3,7 +3,7 @@ use mathlib.Core.Path.{_≡_, refl}
 use mathlib.Core.List.{[], _∷_}
 use Prim.Native.Nat.{ℕ, _<_}
 use lib.Dec.{T}
-use Rattle.math.proofs.Every.{every, each}
+use Rattle.lists.proofs.Every.{every, each}
 use Rattle.text.specs.Text.{ascii}
 use Rattle.text.specs.Spelled.{glyphOf, digitsOf, placesFrom, decimalOf, hexOf, fixedOf}
 use Rattle.text.specs.Escaped.{upperOf, codeOf, shownOf, escapedOf, escapedAll, safe}

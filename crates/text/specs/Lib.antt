@@ -1,4 +1,5 @@
--- Text in a lent buffer, and numbers and bytes as text.
+-- Text in a lent buffer, and numbers, bytes and words as text.
 pub mod Text
 pub mod Spelled
 pub mod Escaped
+pub mod Words

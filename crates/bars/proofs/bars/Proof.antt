@@ -17,44 +17,14 @@ Inv-loop gates count finished₀ bar₀ i₀ finished bar i =
 abbrev μ-loop : tie.MeasureT-loop
 μ-loop gates count finished₀ bar₀ i₀ finished bar i = count - i
 
-used-requires : tie.Need-used-requires Inv-loop μ-loop
-used-requires c κs = search needs
-
-no-bars-requires : tie.Need-no-bars-requires Inv-loop μ-loop
-no-bars-requires c κs = search needs
-
 returns : tie.Need-returns Inv-loop μ-loop
 returns c = join-none (c .before .before .before .args .t1) _ (c .before .before .used .ensures .0) _ (c .no-bars .ensures) (c .before .before .used .ensures .1) (c .before .if1 .taken)
-
-no-bars-requires-2 : tie.Need-no-bars-requires-2 Inv-loop μ-loop
-no-bars-requires-2 c κs = search needs
-
-element-copy-out-bar : tie.Need-element-copy-out-bar Inv-loop μ-loop
-element-copy-out-bar c = search needs
 
 loop-holds : tie.Need-loop-holds Inv-loop μ-loop
 loop-holds c =
     let u = c .before .before .before .used .ensures in
     let some : 0 < c .before .before .before .used .result = omega arith in
     (search needs, search needs, search needs, join-first (c .before .before .before .before .args .t1) _ (u .0) _ (c .before .no-bars2 .ensures) (u .1) some)
-
-mul-next : tie.Need-mul-next Inv-loop μ-loop
-mul-next c = search needs
-
-element-copy-out-next : tie.Need-element-copy-out-next Inv-loop μ-loop
-element-copy-out-next c = search needs
-
-touch-requires : tie.Need-touch-requires Inv-loop μ-loop
-touch-requires c κs = search needs
-
-push-bar-requires : tie.Need-push-bar-requires Inv-loop μ-loop
-push-bar-requires c κs = search needs
-
-add-i : tie.Need-add-i Inv-loop μ-loop
-add-i c = search needs
-
-loop-less : tie.Need-loop-less Inv-loop μ-loop
-loop-less c = search needs
 
 loop-again : tie.Need-loop-again Inv-loop μ-loop
 loop-again c =
@@ -71,9 +41,6 @@ loop-again c =
           (c .if2 .came),
     )
 
-push-bar-requires-2 : tie.Need-push-bar-requires-2 Inv-loop μ-loop
-push-bar-requires-2 c κs = search needs
-
 returns-2 : tie.Need-returns-2 Inv-loop μ-loop
 returns-2 c =
     let inv = c .before .before .loop .inv in
@@ -85,18 +52,18 @@ bars-spec =
     (tie.spec
     Inv-loop
     μ-loop
-    used-requires
-    no-bars-requires
+    (λ c κs. search needs)
+    (λ c κs. search needs)
     returns
-    no-bars-requires-2
-    element-copy-out-bar
+    (λ c κs. search needs)
+    (λ c. search needs)
     loop-holds
-    mul-next
-    element-copy-out-next
-    touch-requires
-    push-bar-requires
-    add-i
-    loop-less
+    (λ c. search needs)
+    (λ c. search needs)
+    (λ c κs. search needs)
+    (λ c κs. search needs)
+    (λ c. search needs)
+    (λ c. search needs)
     loop-again
-    push-bar-requires-2
+    (λ c κs. search needs)
     returns-2)

@@ -5,15 +5,6 @@ use Rattle.bars.specs.Bars.{pushedBar}
 use Rattle.bars.proofs.push_bar.Statement.{statement}
 use Rattle.bars.proofs.push_bar.Tie as tie
 
-mul-bar : tie.Need-mul-bar
-mul-bar c = search needs
-
-element-set-from-bar : tie.Need-element-set-from-bar
-element-set-from-bar c = search needs
-
-add-more : tie.Need-add-more
-add-more c = search needs
-
 returns : tie.Need-returns
 unfolding pushedBar
 returns c = simp (lt-ltb _ _ (c .if1 .taken))
@@ -23,4 +14,4 @@ unfolding pushedBar
 returns-2 c = simp (le-ltb _ _ (c .if1 .left))
 
 pub push-bar-spec : {M : Type 1} → statement M
-push-bar-spec = tie.close (tie.spec mul-bar element-set-from-bar add-more returns returns-2)
+push-bar-spec = tie.close (tie.spec (λ c. search needs) (λ c. search needs) (λ c. search needs) returns returns-2)

@@ -4,11 +4,8 @@ use Rattle.bars.proofs.Joining.{four-used}
 use Rattle.bars.proofs.used.Statement.{statement}
 use Rattle.bars.proofs.used.Tie as tie
 
-returns : tie.Need-returns
-returns c = search needs
-
 returns-2 : tie.Need-returns-2
 returns-2 c = (search needs, four-used (c .before .before .args .gates) _ (c .if1 .left))
 
 pub used-spec : {M : Type 1} → statement M
-used-spec = tie.close (tie.spec returns returns-2)
+used-spec = tie.close (tie.spec (λ c. search needs) returns-2)

@@ -15,18 +15,6 @@ returns c =
     height-answered _ _ _ _ (λ n. c .before .shared-slice-known .given n .fits) (subst T (sym (c .before .before .good .1 .1 .0 .1)) tt)
     (simp (ne-eqb _ _ (c .if1 .taken)))
 
-code-from-requires : tie.Need-code-from-requires
-code-from-requires c κs = search needs
-
-enum-known-read : tie.Need-enum-known-read
-enum-known-read c = search needs
-
-height-at-requires : tie.Need-height-at-requires
-height-at-requires c κs = search needs
-
-enum-told : tie.Need-enum-told
-enum-told c = search needs
-
 returns-2 : tie.Need-returns-2
 unfolding chosenOf chosenBy heightAnswer generatorOf
 returns-2 c =
@@ -44,9 +32,9 @@ height-spec =
     tie.close
     (tie.spec
     returns
-    code-from-requires
-    enum-known-read
-    height-at-requires
-    enum-told
+    (λ c κs. search needs)
+    (λ c. search needs)
+    (λ c κs. search needs)
+    (λ c. search needs)
     returns-2
     returns-3)

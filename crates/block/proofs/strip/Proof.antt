@@ -12,15 +12,6 @@ returns : tie.Need-returns
 unfolding chosenOf chosenBy stripAnswer stripAfter
 returns c = let e = ne-eqb _ _ (c .if1 .taken) in (simp e, simp e)
 
-code-from-requires : tie.Need-code-from-requires
-code-from-requires c κs = search needs
-
-enum-known-read : tie.Need-enum-known-read
-enum-known-read c = search needs
-
-fits-requires : tie.Need-fits-requires
-fits-requires c κs = search needs
-
 returns-2 : tie.Need-returns-2
 unfolding chosenOf chosenBy stripAnswer stripAfter generatorOf stripOf
 returns-2 c =
@@ -29,15 +20,6 @@ returns-2 c =
     let code = sym (r .before .before .code-from .ensures) in
     let length = sym (c .before .fits2 .ensures) ∙ not-true _ (c .if2 .taken) in
     (simp (e, code, r .read .given .1, length), simp (e, code, r .read .given .1, length))
-
-strip-at-requires : tie.Need-strip-at-requires
-strip-at-requires c κs = search needs
-
-enum-told : tie.Need-enum-told
-enum-told c = search needs
-
-same-length : tie.Need-same-length
-same-length c = search needs
 
 returns-3 : tie.Need-returns-3
 unfolding chosenOf chosenBy stripAnswer stripAfter generatorOf
@@ -62,12 +44,12 @@ strip-spec =
     tie.close
     (tie.spec
     returns
-    code-from-requires
-    enum-known-read
-    fits-requires
+    (λ c κs. search needs)
+    (λ c. search needs)
+    (λ c κs. search needs)
     returns-2
-    strip-at-requires
-    enum-told
-    same-length
+    (λ c κs. search needs)
+    (λ c. search needs)
+    (λ c. search needs)
     returns-3
     returns-4)

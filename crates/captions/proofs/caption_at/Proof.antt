@@ -4,27 +4,6 @@ use borrow.Author.Needs.{needs}
 use Rattle.captions.proofs.caption_at.Statement.{statement}
 use Rattle.captions.proofs.caption_at.Tie as tie
 
-enum-known-shape : tie.Need-enum-known-shape
-enum-known-shape c = search needs
-
-caption-of-requires : tie.Need-caption-of-requires
-caption-of-requires c κs = search needs
-
-enum-told : tie.Need-enum-told
-enum-told c = search needs
-
-enum-told-2 : tie.Need-enum-told-2
-enum-told-2 c = search needs
-
-enum-told-3 : tie.Need-enum-told-3
-enum-told-3 c = search needs
-
-enum-told-4 : tie.Need-enum-told-4
-enum-told-4 c = search needs
-
-enum-told-5 : tie.Need-enum-told-5
-enum-told-5 c = search needs
-
 returns : tie.Need-returns
 unfolding captionAt
 returns c = simp (c .before .before .shape .given .1, c .caption-of .ensures)
@@ -53,13 +32,13 @@ pub caption-at-spec : {M : Type 1} → statement M
 caption-at-spec =
     tie.close
     (tie.spec
-    enum-known-shape
-    caption-of-requires
-    enum-told
-    enum-told-2
-    enum-told-3
-    enum-told-4
-    enum-told-5
+    (λ c. search needs)
+    (λ c κs. search needs)
+    (λ c. search needs)
+    (λ c. search needs)
+    (λ c. search needs)
+    (λ c. search needs)
+    (λ c. search needs)
     returns
     returns-2
     returns-3

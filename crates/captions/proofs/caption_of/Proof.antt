@@ -8,15 +8,9 @@ use Rattle.captions.proofs.caption_of.Tie as tie
 returns : tie.Need-returns
 returns c = caption-first (envelopeMarks (c .before .args .e)) _ _ (c .if1 .taken)
 
-sample-position-requires : tie.Need-sample-position-requires
-sample-position-requires c κs = search needs
-
-segment-at-requires : tie.Need-segment-at-requires
-segment-at-requires c κs = search needs
-
 returns-2 : tie.Need-returns-2
 returns-2 c = caption-later (envelopeMarks (c .before .before .before .args .e)) _ _ _ (c .before .before .if1 .left) (c .before .sample-position .ensures) (c .segment-at .ensures)
 
 pub caption-of-spec : {M : Type 1} → statement M
 caption-of-spec =
-    tie.close (tie.spec returns sample-position-requires segment-at-requires returns-2)
+    tie.close (tie.spec returns (λ c κs. search needs) (λ c κs. search needs) returns-2)

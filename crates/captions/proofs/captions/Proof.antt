@@ -7,17 +7,11 @@ use borrow.Author.Needs.{needs}
 use Rattle.captions.proofs.captions.Statement.{statement}
 use Rattle.captions.proofs.captions.Tie as tie
 
-fits-requires : tie.Need-fits-requires
-fits-requires c κs = search needs
-
 returns : tie.Need-returns
 returns c = refused (c .before .before .before .args .g .shape) _ (sym (c .before .fits2 .ensures) ∙ not-true _ (c .if1 .taken))
 
 write-captions-requires : tie.Need-write-captions-requires
 write-captions-requires c κs = between _ (c .before .before .fits2 .ensures) (c .before .if1 .left)
-
-same-length : tie.Need-same-length
-same-length c = search needs
 
 returns-2 : tie.Need-returns-2
 returns-2 c =
@@ -25,4 +19,4 @@ returns-2 c =
     accepted (f .before .before .before .args .g .shape) (f .before .before .before .args .out .now) (sym (f .before .fits2 .ensures) ∙ not-false _ (f .if1 .left)) (c .before .before .write-captions .ensures)
 
 pub captions-spec : {M : Type 1} → statement M
-captions-spec = tie.close (tie.spec fits-requires returns write-captions-requires same-length returns-2)
+captions-spec = tie.close (tie.spec (λ c κs. search needs) returns write-captions-requires (λ c. search needs) returns-2)

@@ -5,8 +5,8 @@ use native.Mathlib.Nat.{le-antisymm}
 use native.Mathlib.Omega.{arith}
 use borrow.Author.Needs.{needs}
 use lib.ListN.{length, length-set}
-use Rattle.strip.specs.Strip.{written}
-use Rattle.strip.proofs.Written.{written-next, written-whole}
+use Rattle.lists.specs.Written.{written}
+use Rattle.lists.proofs.Written.{written-next, written-whole}
 use Rattle.captions.specs.Captions.{captionAt}
 use Rattle.captions.proofs.Writing.{caption-here}
 use Rattle.captions.proofs.write_captions.Statement.{statement}
@@ -18,30 +18,9 @@ Inv-loop g out₀ n last i₀ out i = (length out ≡ length out₀) × (i ≤ n
 abbrev μ-loop : tie.MeasureT-loop
 μ-loop g out₀ n last i₀ out i = n - i
 
-sub-last : tie.Need-sub-last Inv-loop μ-loop
-sub-last c = search needs
-
-cast-last : tie.Need-cast-last Inv-loop μ-loop
-cast-last c = search needs
-
 loop-holds : tie.Need-loop-holds Inv-loop μ-loop
 unfolding written
 loop-holds c = (search needs, search needs, refl)
-
-cast-caption-at : tie.Need-cast-caption-at Inv-loop μ-loop
-cast-caption-at c = search needs
-
-caption-at-requires : tie.Need-caption-at-requires Inv-loop μ-loop
-caption-at-requires c κs = search needs
-
-slice-write-out : tie.Need-slice-write-out Inv-loop μ-loop
-slice-write-out c = search needs
-
-add-i : tie.Need-add-i Inv-loop μ-loop
-add-i c = search needs
-
-loop-less : tie.Need-loop-less Inv-loop μ-loop
-loop-less c = search needs
 
 loop-again : tie.Need-loop-again Inv-loop μ-loop
 loop-again c =
@@ -61,14 +40,14 @@ write-captions-spec =
     (tie.spec
     Inv-loop
     μ-loop
-    sub-last
-    cast-last
+    (λ c. search needs)
+    (λ c. search needs)
     loop-holds
-    cast-caption-at
-    caption-at-requires
-    slice-write-out
-    add-i
-    loop-less
+    (λ c. search needs)
+    (λ c κs. search needs)
+    (λ c. search needs)
+    (λ c. search needs)
+    (λ c. search needs)
     loop-again
     same-length
     returns)

@@ -4,12 +4,9 @@ use borrow.Author.Needs.{needs}
 use Rattle.curve.proofs.drawn.Statement.{statement}
 use Rattle.curve.proofs.drawn.Tie as tie
 
-unit-requires : tie.Need-unit-requires
-unit-requires c κs = search needs
-
 returns : tie.Need-returns
 unfolding drawnOf
 returns c = simp (c .unit .ensures)
 
 pub drawn-spec : {M : Type 1} → statement M
-drawn-spec = tie.close (tie.spec unit-requires returns)
+drawn-spec = tie.close (tie.spec (λ c κs. search needs) returns)

@@ -10,12 +10,9 @@ returns : tie.Need-returns
 unfolding positionOf
 returns c = simp (is-nan true _ (c .if1 .taken))
 
-unit-requires : tie.Need-unit-requires
-unit-requires c κs = search needs
-
 returns-2 : tie.Need-returns-2
 unfolding positionOf
 returns-2 c = simp (is-nan false _ (c .before .if1 .left), c .unit .ensures)
 
 pub position-spec : {M : Type 1} → statement M
-position-spec = tie.close (tie.spec returns unit-requires returns-2)
+position-spec = tie.close (tie.spec returns (λ c κs. search needs) returns-2)

@@ -17,14 +17,8 @@ raised-then-lowered x = go (lt x zero₃₂)
     go true = refl
     go false = refl
 
-raised-requires : tie.Need-raised-requires
-raised-requires c κs = search needs
-
-lowered-requires : tie.Need-lowered-requires
-lowered-requires c κs = search needs
-
 returns : tie.Need-returns
 returns c = simp (c .lowered .ensures, c .before .raised .ensures) (raised-then-lowered _)
 
 pub unit-spec : {M : Type 1} → statement M
-unit-spec = tie.close (tie.spec raised-requires lowered-requires returns)
+unit-spec = tie.close (tie.spec (λ c κs. search needs) (λ c κs. search needs) returns)

@@ -6,24 +6,6 @@ use borrow.Author.Needs.{needs}
 use Rattle.dials.proofs.curved.Statement.{statement}
 use Rattle.dials.proofs.curved.Tie as tie
 
-start-requires : tie.Need-start-requires
-start-requires c κs = search needs
-
-slice-aggregate-put : tie.Need-slice-aggregate-put
-slice-aggregate-put c = refl
-
-put-requires : tie.Need-put-requires
-put-requires c κs = search needs
-
-put-decimal-requires : tie.Need-put-decimal-requires
-put-decimal-requires c κs = search needs
-
-end-requires : tie.Need-end-requires
-end-requires c κs = search needs
-
-same-length : tie.Need-same-length
-same-length c = search needs
-
 returns : tie.Need-returns
 unfolding curvedDial
 returns c =
@@ -36,10 +18,10 @@ pub curved-spec : {M : Type 1} → statement M
 curved-spec =
     tie.close
     (tie.spec
-    start-requires
-    slice-aggregate-put
-    put-requires
-    put-decimal-requires
-    end-requires
-    same-length
+    (λ c κs. search needs)
+    (λ c. refl)
+    (λ c κs. search needs)
+    (λ c κs. search needs)
+    (λ c κs. search needs)
+    (λ c. search needs)
     returns)

@@ -7,24 +7,6 @@ use borrow.Author.Needs.{needs}
 use Rattle.dials.proofs.low_pass_dials.Statement.{statement}
 use Rattle.dials.proofs.low_pass_dials.Tie as tie
 
-slice-aggregate-plain : tie.Need-slice-aggregate-plain
-slice-aggregate-plain c = refl
-
-shared-slice-read-plain : tie.Need-shared-slice-read-plain
-shared-slice-read-plain c = omega arith
-
-plain-requires : tie.Need-plain-requires
-plain-requires c κs = search needs
-
-shared-slice-read-poles : tie.Need-shared-slice-read-poles
-shared-slice-read-poles c = omega arith
-
-poles-requires : tie.Need-poles-requires
-poles-requires c κs = search needs
-
-same-length : tie.Need-same-length
-same-length c = search needs
-
 returns : tie.Need-returns
 unfolding lowPassDials
 returns c =
@@ -35,10 +17,10 @@ pub low-pass-dials-spec : {M : Type 1} → statement M
 low-pass-dials-spec =
     tie.close
     (tie.spec
-    slice-aggregate-plain
-    shared-slice-read-plain
-    plain-requires
-    shared-slice-read-poles
-    poles-requires
-    same-length
+    (λ c. refl)
+    (λ c. omega arith)
+    (λ c κs. search needs)
+    (λ c. omega arith)
+    (λ c κs. search needs)
+    (λ c. search needs)
     returns)

@@ -5,15 +5,6 @@ use borrow.Author.Needs.{needs}
 use Rattle.dials.proofs.plain.Statement.{statement}
 use Rattle.dials.proofs.plain.Tie as tie
 
-start-requires : tie.Need-start-requires
-start-requires c κs = search needs
-
-end-requires : tie.Need-end-requires
-end-requires c κs = search needs
-
-same-length : tie.Need-same-length
-same-length c = search needs
-
 returns : tie.Need-returns
 unfolding plainDial
 returns c =
@@ -21,4 +12,4 @@ returns c =
     c .before .before .end .ensures
 
 pub plain-spec : {M : Type 1} → statement M
-plain-spec = tie.close (tie.spec start-requires end-requires same-length returns)
+plain-spec = tie.close (tie.spec (λ c κs. search needs) (λ c κs. search needs) (λ c. search needs) returns)

@@ -6,21 +6,6 @@ use borrow.Author.Needs.{needs}
 use Rattle.dials.proofs.poles.Statement.{statement}
 use Rattle.dials.proofs.poles.Tie as tie
 
-slice-aggregate-start : tie.Need-slice-aggregate-start
-slice-aggregate-start c = refl
-
-start-requires : tie.Need-start-requires
-start-requires c κs = search needs
-
-put-poles-requires : tie.Need-put-poles-requires
-put-poles-requires c κs = search needs
-
-end-requires : tie.Need-end-requires
-end-requires c κs = search needs
-
-same-length : tie.Need-same-length
-same-length c = search needs
-
 returns : tie.Need-returns
 unfolding dialText
 returns c =
@@ -32,9 +17,9 @@ pub poles-spec : {M : Type 1} → statement M
 poles-spec =
     tie.close
     (tie.spec
-    slice-aggregate-start
-    start-requires
-    put-poles-requires
-    end-requires
-    same-length
+    (λ c. refl)
+    (λ c κs. search needs)
+    (λ c κs. search needs)
+    (λ c κs. search needs)
+    (λ c. search needs)
     returns)

@@ -10,15 +10,9 @@ returns : tie.Need-returns
 unfolding dialsText
 returns c = simp (ne-eqb _ _ (c .if1 .taken)) (puts-none _ _)
 
-dials-at-requires : tie.Need-dials-at-requires
-dials-at-requires c κs = search needs
-
-same-length : tie.Need-same-length
-same-length c = search needs
-
 returns-2 : tie.Need-returns-2
 unfolding dialsText
 returns-2 c = simp (c .before .before .before .before .if1 .left) (c .before .before .dials-at .ensures)
 
 pub put-dials-spec : {M : Type 1} → statement M
-put-dials-spec = tie.close (tie.spec returns dials-at-requires same-length returns-2)
+put-dials-spec = tie.close (tie.spec returns (λ c κs. search needs) (λ c. search needs) returns-2)

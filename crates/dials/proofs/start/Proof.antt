@@ -6,42 +6,6 @@ use borrow.Author.Needs.{needs}
 use Rattle.dials.proofs.start.Statement.{statement}
 use Rattle.dials.proofs.start.Tie as tie
 
-slice-aggregate-put : tie.Need-slice-aggregate-put
-slice-aggregate-put c = refl
-
-put-requires : tie.Need-put-requires
-put-requires c κs = search needs
-
-put-decimal-requires : tie.Need-put-decimal-requires
-put-decimal-requires c κs = search needs
-
-slice-aggregate-put-2 : tie.Need-slice-aggregate-put-2
-slice-aggregate-put-2 c = refl
-
-put-requires-2 : tie.Need-put-requires-2
-put-requires-2 c κs = search needs
-
-put-requires-3 : tie.Need-put-requires-3
-put-requires-3 c κs = search needs
-
-slice-aggregate-put-3 : tie.Need-slice-aggregate-put-3
-slice-aggregate-put-3 c = refl
-
-put-requires-4 : tie.Need-put-requires-4
-put-requires-4 c κs = search needs
-
-put-decimal-requires-2 : tie.Need-put-decimal-requires-2
-put-decimal-requires-2 c κs = search needs
-
-slice-aggregate-put-4 : tie.Need-slice-aggregate-put-4
-slice-aggregate-put-4 c = refl
-
-put-requires-5 : tie.Need-put-requires-5
-put-requires-5 c κs = search needs
-
-same-length : tie.Need-same-length
-same-length c = search needs
-
 returns : tie.Need-returns
 unfolding dialStart
 returns c =
@@ -57,16 +21,16 @@ pub start-spec : {M : Type 1} → statement M
 start-spec =
     tie.close
     (tie.spec
-    slice-aggregate-put
-    put-requires
-    put-decimal-requires
-    slice-aggregate-put-2
-    put-requires-2
-    put-requires-3
-    slice-aggregate-put-3
-    put-requires-4
-    put-decimal-requires-2
-    slice-aggregate-put-4
-    put-requires-5
-    same-length
+    (λ c. refl)
+    (λ c κs. search needs)
+    (λ c κs. search needs)
+    (λ c. refl)
+    (λ c κs. search needs)
+    (λ c κs. search needs)
+    (λ c. refl)
+    (λ c κs. search needs)
+    (λ c κs. search needs)
+    (λ c. refl)
+    (λ c κs. search needs)
+    (λ c. search needs)
     returns)

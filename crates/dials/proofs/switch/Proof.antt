@@ -5,18 +5,6 @@ use borrow.Author.Needs.{needs}
 use Rattle.dials.proofs.switch.Statement.{statement}
 use Rattle.dials.proofs.switch.Tie as tie
 
-start-requires : tie.Need-start-requires
-start-requires c κs = search needs
-
-put-switch-requires : tie.Need-put-switch-requires
-put-switch-requires c κs = search needs
-
-end-requires : tie.Need-end-requires
-end-requires c κs = search needs
-
-same-length : tie.Need-same-length
-same-length c = search needs
-
 returns : tie.Need-returns
 unfolding dialText
 returns c =
@@ -26,4 +14,4 @@ returns c =
 
 pub switch-spec : {M : Type 1} → statement M
 switch-spec =
-    tie.close (tie.spec start-requires put-switch-requires end-requires same-length returns)
+    tie.close (tie.spec (λ c κs. search needs) (λ c κs. search needs) (λ c κs. search needs) (λ c. search needs) returns)

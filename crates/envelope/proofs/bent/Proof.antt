@@ -4,9 +4,6 @@ use borrow.Author.Needs.{needs}
 use Rattle.envelope.proofs.bent.Statement.{statement}
 use Rattle.envelope.proofs.bent.Tie as tie
 
-unit-requires : tie.Need-unit-requires
-unit-requires c κs = search needs
-
 returns : tie.Need-returns
 unfolding bentOf bentUnit denominatorOf
 returns c = simp (c .before .unit .ensures, simp (c .before .unit .ensures) at (c .if1 .taken))
@@ -16,4 +13,4 @@ unfolding bentOf bentUnit denominatorOf
 returns-2 c = simp (c .before .unit .ensures, simp (c .before .unit .ensures) at (c .if1 .left))
 
 pub bent-spec : {M : Type 1} → statement M
-bent-spec = tie.close (tie.spec unit-requires returns returns-2)
+bent-spec = tie.close (tie.spec (λ c κs. search needs) returns returns-2)

@@ -8,12 +8,9 @@ returns : tie.Need-returns
 unfolding divideOf
 returns c = simp (c .if1 .taken)
 
-unit-requires : tie.Need-unit-requires
-unit-requires c κs = search needs
-
 returns-2 : tie.Need-returns-2
 unfolding divideOf
 returns-2 c = simp (c .before .if1 .left, c .unit .ensures)
 
 pub divide-spec : {M : Type 1} → statement M
-divide-spec = tie.close (tie.spec returns unit-requires returns-2)
+divide-spec = tie.close (tie.spec returns (λ c κs. search needs) returns-2)

@@ -4,15 +4,9 @@ use borrow.Author.Needs.{needs}
 use Rattle.envelope.proofs.release.Statement.{statement}
 use Rattle.envelope.proofs.release.Tie as tie
 
-divide-requires : tie.Need-divide-requires
-divide-requires c κs = search needs
-
-bent-requires : tie.Need-bent-requires
-bent-requires c κs = search needs
-
 returns : tie.Need-returns
 unfolding releaseOf
 returns c = simp (c .before .bent .ensures, c .before .before .divide .ensures)
 
 pub release-spec : {M : Type 1} → statement M
-release-spec = tie.close (tie.spec divide-requires bent-requires returns)
+release-spec = tie.close (tie.spec (λ c κs. search needs) (λ c κs. search needs) returns)

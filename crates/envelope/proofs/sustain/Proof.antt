@@ -4,12 +4,9 @@ use borrow.Author.Needs.{needs}
 use Rattle.envelope.proofs.sustain.Statement.{statement}
 use Rattle.envelope.proofs.sustain.Tie as tie
 
-divide-requires : tie.Need-divide-requires
-divide-requires c κs = search needs
-
 returns : tie.Need-returns
 unfolding sustainOf
 returns c = simp (c .before .before .divide .ensures)
 
 pub sustain-spec : {M : Type 1} → statement M
-sustain-spec = tie.close (tie.spec divide-requires returns)
+sustain-spec = tie.close (tie.spec (λ c κs. search needs) returns)

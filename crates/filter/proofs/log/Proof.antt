@@ -8,15 +8,9 @@ returns : tie.Need-returns
 unfolding logOf
 returns c = simp (c .if1 .taken)
 
-exp2-requires : tie.Need-exp2-requires
-exp2-requires c κs = search needs
-
-log2-requires : tie.Need-log2-requires
-log2-requires c κs = search needs
-
 returns-2 : tie.Need-returns-2
 unfolding logOf
 returns-2 c = simp (c .before .before .if1 .left, c .before .exp2 .ensures, c .log2 .ensures)
 
 pub log-spec : {M : Type 1} → statement M
-log-spec = tie.close (tie.spec returns exp2-requires log2-requires returns-2)
+log-spec = tie.close (tie.spec returns (λ c κs. search needs) (λ c κs. search needs) returns-2)

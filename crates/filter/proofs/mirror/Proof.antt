@@ -4,12 +4,6 @@ use Rattle.filter.specs.Formula.{mirroredOf}
 use Rattle.filter.proofs.mirror.Statement.{statement}
 use Rattle.filter.proofs.mirror.Tie as tie
 
-enum-told : tie.Need-enum-told
-enum-told c = search needs
-
-enum-told-2 : tie.Need-enum-told-2
-enum-told-2 c = search needs
-
 returns : tie.Need-returns
 unfolding mirroredOf
 returns c = simp (c .enum-told .given .1)
@@ -19,4 +13,4 @@ unfolding mirroredOf
 returns-2 c = simp (c .enum-told2 .given .1)
 
 pub mirror-spec : {M : Type 1} → statement M
-mirror-spec = tie.close (tie.spec enum-told enum-told-2 returns returns-2)
+mirror-spec = tie.close (tie.spec (λ c. search needs) (λ c. search needs) returns returns-2)

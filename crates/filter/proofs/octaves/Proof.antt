@@ -4,12 +4,9 @@ use Rattle.filter.specs.Formula.{octavesOf}
 use Rattle.filter.proofs.octaves.Statement.{statement}
 use Rattle.filter.proofs.octaves.Tie as tie
 
-mirror-requires : tie.Need-mirror-requires
-mirror-requires c κs = search needs
-
 returns : tie.Need-returns
 unfolding octavesOf
 returns c = simp (c .mirror .ensures)
 
 pub octaves-spec : {M : Type 1} → statement M
-octaves-spec = tie.close (tie.spec mirror-requires returns)
+octaves-spec = tie.close (tie.spec (λ c κs. search needs) returns)

@@ -9,18 +9,6 @@ returns : tie.Need-returns
 unfolding gatesOf
 returns c = simp (eq-eqb _ _ (c .if1 .taken))
 
-gate-at-requires : tie.Need-gate-at-requires
-gate-at-requires c κs = search needs
-
-gate-at-requires-2 : tie.Need-gate-at-requires-2
-gate-at-requires-2 c κs = search needs
-
-gate-at-requires-3 : tie.Need-gate-at-requires-3
-gate-at-requires-3 c κs = search needs
-
-gate-at-requires-4 : tie.Need-gate-at-requires-4
-gate-at-requires-4 c κs = search needs
-
 returns-2 : tie.Need-returns-2
 unfolding gatesOf
 returns-2 c = simp (ne-eqb _ _ (c .before .before .before .before .if1 .left), c .gate-at4 .ensures, c .before .gate-at3 .ensures, c .before .before .gate-at2 .ensures, c .before .before .before .gate-at .ensures)
@@ -30,8 +18,8 @@ arpeggiator-gates-spec =
     tie.close
     (tie.spec
     returns
-    gate-at-requires
-    gate-at-requires-2
-    gate-at-requires-3
-    gate-at-requires-4
+    (λ c κs. search needs)
+    (λ c κs. search needs)
+    (λ c κs. search needs)
+    (λ c κs. search needs)
     returns-2)

@@ -18,20 +18,8 @@ loop-holds : tie.Need-loop-holds Inv-loop μ-loop
 unfolding cyclesOf
 loop-holds c = (search needs, refl)
 
-add-count : tie.Need-add-count Inv-loop μ-loop
-add-count c = search needs
-
-int-to-float-cycle : tie.Need-int-to-float-cycle Inv-loop μ-loop
-int-to-float-cycle c = search needs
-
 returns : tie.Need-returns Inv-loop μ-loop
 returns c = cycles-end _ _ _ (c .before .before .loop-test .taken) (c .if1 .taken) ∙ c .before .before .before .loop .inv .1
-
-push-requires : tie.Need-push-requires Inv-loop μ-loop
-push-requires c κs = search needs
-
-loop-less : tie.Need-loop-less Inv-loop μ-loop
-loop-less c = search needs
 
 loop-again : tie.Need-loop-again Inv-loop μ-loop
 loop-again c = (
@@ -50,10 +38,10 @@ cycles-spec =
     Inv-loop
     μ-loop
     loop-holds
-    add-count
-    int-to-float-cycle
+    (λ c. search needs)
+    (λ c. search needs)
     returns
-    push-requires
-    loop-less
+    (λ c κs. search needs)
+    (λ c. search needs)
     loop-again
     returns-2)

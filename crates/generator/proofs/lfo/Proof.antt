@@ -3,14 +3,8 @@ use borrow.Author.Needs.{needs}
 use Rattle.generator.proofs.lfo.Statement.{statement}
 use Rattle.generator.proofs.lfo.Tie as tie
 
-lfo-from-requires : tie.Need-lfo-from-requires
-lfo-from-requires c κs = search needs
-
-of-shape-requires : tie.Need-of-shape-requires
-of-shape-requires c κs = search needs
-
 returns : tie.Need-returns
 returns c = simp (c .of-shape .ensures, c .before .lfo-from .ensures)
 
 pub lfo-spec : {M : Type 1} → statement M
-lfo-spec = tie.close (tie.spec lfo-from-requires of-shape-requires returns)
+lfo-spec = tie.close (tie.spec (λ c κs. search needs) (λ c κs. search needs) returns)

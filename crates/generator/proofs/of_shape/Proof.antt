@@ -4,12 +4,9 @@ use borrow.Author.Needs.{needs}
 use Rattle.generator.proofs.of_shape.Statement.{statement}
 use Rattle.generator.proofs.of_shape.Tie as tie
 
-scale-of-requires : tie.Need-scale-of-requires
-scale-of-requires c κs = search needs
-
 returns : tie.Need-returns
 unfolding generatorOf
 returns c = simp (c .scale-of .ensures)
 
 pub of-shape-spec : {M : Type 1} → statement M
-of-shape-spec = tie.close (tie.spec scale-of-requires returns)
+of-shape-spec = tie.close (tie.spec (λ c κs. search needs) returns)

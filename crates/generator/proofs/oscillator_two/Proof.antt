@@ -3,14 +3,8 @@ use borrow.Author.Needs.{needs}
 use Rattle.generator.proofs.oscillator_two.Statement.{statement}
 use Rattle.generator.proofs.oscillator_two.Tie as tie
 
-oscillator-two-from-requires : tie.Need-oscillator-two-from-requires
-oscillator-two-from-requires c κs = search needs
-
-of-shape-requires : tie.Need-of-shape-requires
-of-shape-requires c κs = search needs
-
 returns : tie.Need-returns
 returns c = simp (c .of-shape .ensures, c .before .oscillator-two-from .ensures)
 
 pub oscillator-two-spec : {M : Type 1} → statement M
-oscillator-two-spec = tie.close (tie.spec oscillator-two-from-requires of-shape-requires returns)
+oscillator-two-spec = tie.close (tie.spec (λ c κs. search needs) (λ c κs. search needs) returns)

@@ -6,18 +6,6 @@ use Rattle.generator.proofs.Stored.{push-more}
 use Rattle.generator.proofs.pulse_marks.Statement.{statement}
 use Rattle.generator.proofs.pulse_marks.Tie as tie
 
-no-marks-requires : tie.Need-no-marks-requires
-no-marks-requires c κs = search needs
-
-push-requires : tie.Need-push-requires
-push-requires c κs = search needs
-
-push-requires-2 : tie.Need-push-requires-2
-push-requires-2 c κs = search needs
-
-push-requires-3 : tie.Need-push-requires-3
-push-requires-3 c κs = search needs
-
 returns : tie.Need-returns
 unfolding pulseMarks sweepMarks noMarks
 returns c =
@@ -30,9 +18,6 @@ returns-2 : tie.Need-returns-2
 unfolding pulseMarks sweepMarks noMarks
 returns-2 c = simp (c .before .before .before .before .if1 .taken, c .if2 .left) (push-more [] _ (c .before .before .before .no-marks .ensures) (c .before .before .push .ensures))
 
-no-marks-requires-2 : tie.Need-no-marks-requires-2
-no-marks-requires-2 c κs = search needs
-
 returns-3 : tie.Need-returns-3
 unfolding pulseMarks noMarks
 returns-3 c = simp (c .before .if1 .left) (c .no-marks2 .ensures)
@@ -41,11 +26,11 @@ pub pulse-marks-spec : {M : Type 1} → statement M
 pulse-marks-spec =
     tie.close
     (tie.spec
-    no-marks-requires
-    push-requires
-    push-requires-2
-    push-requires-3
+    (λ c κs. search needs)
+    (λ c κs. search needs)
+    (λ c κs. search needs)
+    (λ c κs. search needs)
     returns
     returns-2
-    no-marks-requires-2
+    (λ c κs. search needs)
     returns-3)

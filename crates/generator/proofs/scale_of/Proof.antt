@@ -4,24 +4,6 @@ use borrow.Author.Needs.{needs}
 use Rattle.generator.proofs.scale_of.Statement.{statement}
 use Rattle.generator.proofs.scale_of.Tie as tie
 
-enum-told : tie.Need-enum-told
-enum-told c = search needs
-
-enum-told-2 : tie.Need-enum-told-2
-enum-told-2 c = search needs
-
-enum-known-shape : tie.Need-enum-known-shape
-enum-known-shape c = search needs
-
-enum-known-shape-2 : tie.Need-enum-known-shape-2
-enum-known-shape-2 c = search needs
-
-enum-told-3 : tie.Need-enum-told-3
-enum-told-3 c = search needs
-
-enum-told-4 : tie.Need-enum-told-4
-enum-told-4 c = search needs
-
 returns : tie.Need-returns
 unfolding scaleOf
 returns c = simp (c .enum-told .given .1)
@@ -50,12 +32,12 @@ pub scale-of-spec : {M : Type 1} → statement M
 scale-of-spec =
     tie.close
     (tie.spec
-    enum-told
-    enum-told-2
-    enum-known-shape
-    enum-known-shape-2
-    enum-told-3
-    enum-told-4
+    (λ c. search needs)
+    (λ c. search needs)
+    (λ c. search needs)
+    (λ c. search needs)
+    (λ c. search needs)
+    (λ c. search needs)
     returns
     returns-2
     returns-3

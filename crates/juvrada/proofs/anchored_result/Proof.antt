@@ -4,18 +4,9 @@ use borrow.Author.Needs.{needs}
 use Rattle.juvrada.proofs.anchored_result.Statement.{statement}
 use Rattle.juvrada.proofs.anchored_result.Tie as tie
 
-enum-known-answer : tie.Need-enum-known-answer
-enum-known-answer c = search needs
-
 returns : tie.Need-returns
 unfolding anchoredResult
 returns c = simp (c .if1 .taken, c .before .before .answer .given .1)
-
-enum-known-answer-2 : tie.Need-enum-known-answer-2
-enum-known-answer-2 c = search needs
-
-refusal-number-requires : tie.Need-refusal-number-requires
-refusal-number-requires c κs = search needs
 
 returns-2 : tie.Need-returns-2
 unfolding anchoredResult
@@ -29,9 +20,9 @@ pub anchored-result-spec : {M : Type 1} → statement M
 anchored-result-spec =
     tie.close
     (tie.spec
-    enum-known-answer
+    (λ c. search needs)
     returns
-    enum-known-answer-2
-    refusal-number-requires
+    (λ c. search needs)
+    (λ c κs. search needs)
     returns-2
     returns-3)

@@ -4,15 +4,6 @@ use borrow.Author.Needs.{needs}
 use Rattle.juvrada.proofs.answer_number.Statement.{statement}
 use Rattle.juvrada.proofs.answer_number.Tie as tie
 
-enum-told : tie.Need-enum-told
-enum-told c = search needs
-
-enum-known-answer : tie.Need-enum-known-answer
-enum-known-answer c = search needs
-
-refusal-number-requires : tie.Need-refusal-number-requires
-refusal-number-requires c κs = search needs
-
 returns : tie.Need-returns
 unfolding answerNumber
 returns c = simp (c .enum-told .given .1)
@@ -23,4 +14,4 @@ returns-2 c = simp (c .refusal-number .ensures, c .before .before .answer .given
 
 pub answer-number-spec : {M : Type 1} → statement M
 answer-number-spec =
-    tie.close (tie.spec enum-told enum-known-answer refusal-number-requires returns returns-2)
+    tie.close (tie.spec (λ c. search needs) (λ c. search needs) (λ c κs. search needs) returns returns-2)

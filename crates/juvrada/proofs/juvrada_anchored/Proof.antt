@@ -3,14 +3,8 @@ use borrow.Author.Needs.{needs}
 use Rattle.juvrada.proofs.juvrada_anchored.Statement.{statement}
 use Rattle.juvrada.proofs.juvrada_anchored.Tie as tie
 
-anchored-requires : tie.Need-anchored-requires
-anchored-requires c κs = search needs
-
-anchored-result-requires : tie.Need-anchored-result-requires
-anchored-result-requires c κs = search needs
-
 returns : tie.Need-returns
 returns c = simp (c .anchored-result .ensures, c .before .anchored .ensures)
 
 pub juvrada-anchored-spec : {M : Type 1} → statement M
-juvrada-anchored-spec = tie.close (tie.spec anchored-requires anchored-result-requires returns)
+juvrada-anchored-spec = tie.close (tie.spec (λ c κs. search needs) (λ c κs. search needs) returns)

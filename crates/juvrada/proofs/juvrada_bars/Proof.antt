@@ -4,14 +4,8 @@ use borrow.Author.Needs.{needs}
 use Rattle.juvrada.proofs.juvrada_bars.Statement.{statement}
 use Rattle.juvrada.proofs.juvrada_bars.Tie as tie
 
-bars-requires : tie.Need-bars-requires
-bars-requires c κs = search needs
-
-lay-gates-requires : tie.Need-lay-gates-requires
-lay-gates-requires c κs = search needs
-
 returns : tie.Need-returns
 returns c = same-gates (c .before .before .before .bars .ensures) (c .lay-gates .ensures)
 
 pub juvrada-bars-spec : {M : Type 1} → statement M
-juvrada-bars-spec = tie.close (tie.spec bars-requires lay-gates-requires returns)
+juvrada-bars-spec = tie.close (tie.spec (λ c κs. search needs) (λ c κs. search needs) returns)

@@ -5,18 +5,9 @@ use borrow.Author.Needs.{needs}
 use Rattle.juvrada.proofs.juvrada_captions.Statement.{statement}
 use Rattle.juvrada.proofs.juvrada_captions.Tie as tie
 
-captions-requires : tie.Need-captions-requires
-captions-requires c κs = search needs
-
-answer-number-requires : tie.Need-answer-number-requires
-answer-number-requires c κs = search needs
-
-same-length : tie.Need-same-length
-same-length c = search needs
-
 returns : tie.Need-returns
 returns c = (c .answer-number .ensures ∙ ap answerNumber (c .before .before .before .captions .ensures .0), c .before .before .before .captions .ensures .1)
 
 pub juvrada-captions-spec : {M : Type 1} → statement M
 juvrada-captions-spec =
-    tie.close (tie.spec captions-requires answer-number-requires same-length returns)
+    tie.close (tie.spec (λ c κs. search needs) (λ c κs. search needs) (λ c. search needs) returns)

@@ -4,14 +4,8 @@ use borrow.Author.Needs.{needs}
 use Rattle.juvrada.proofs.juvrada_gates.Statement.{statement}
 use Rattle.juvrada.proofs.juvrada_gates.Tie as tie
 
-gates-requires : tie.Need-gates-requires
-gates-requires c κs = search needs
-
-lay-gates-requires : tie.Need-lay-gates-requires
-lay-gates-requires c κs = search needs
-
 returns : tie.Need-returns
 returns c = same-gates (c .before .before .before .gates .ensures) (c .lay-gates .ensures)
 
 pub juvrada-gates-spec : {M : Type 1} → statement M
-juvrada-gates-spec = tie.close (tie.spec gates-requires lay-gates-requires returns)
+juvrada-gates-spec = tie.close (tie.spec (λ c κs. search needs) (λ c κs. search needs) returns)

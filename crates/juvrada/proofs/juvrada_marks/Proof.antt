@@ -4,14 +4,8 @@ use borrow.Author.Needs.{needs}
 use Rattle.juvrada.proofs.juvrada_marks.Statement.{statement}
 use Rattle.juvrada.proofs.juvrada_marks.Tie as tie
 
-marks-requires : tie.Need-marks-requires
-marks-requires c κs = search needs
-
-lay-marks-requires : tie.Need-lay-marks-requires
-lay-marks-requires c κs = search needs
-
 returns : tie.Need-returns
 returns c = same-marks (c .before .before .before .marks .ensures) (c .lay-marks .ensures)
 
 pub juvrada-marks-spec : {M : Type 1} → statement M
-juvrada-marks-spec = tie.close (tie.spec marks-requires lay-marks-requires returns)
+juvrada-marks-spec = tie.close (tie.spec (λ c κs. search needs) (λ c κs. search needs) returns)

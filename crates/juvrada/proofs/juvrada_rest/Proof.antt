@@ -3,14 +3,8 @@ use borrow.Author.Needs.{needs}
 use Rattle.juvrada.proofs.juvrada_rest.Statement.{statement}
 use Rattle.juvrada.proofs.juvrada_rest.Tie as tie
 
-rest-requires : tie.Need-rest-requires
-rest-requires c κs = search needs
-
-rest-result-requires : tie.Need-rest-result-requires
-rest-result-requires c κs = search needs
-
 returns : tie.Need-returns
 returns c = simp (c .rest-result .ensures, c .before .rest .ensures)
 
 pub juvrada-rest-spec : {M : Type 1} → statement M
-juvrada-rest-spec = tie.close (tie.spec rest-requires rest-result-requires returns)
+juvrada-rest-spec = tie.close (tie.spec (λ c κs. search needs) (λ c κs. search needs) returns)

@@ -3,14 +3,8 @@ use borrow.Author.Needs.{needs}
 use Rattle.juvrada.proofs.juvrada_scale.Statement.{statement}
 use Rattle.juvrada.proofs.juvrada_scale.Tie as tie
 
-scale-requires : tie.Need-scale-requires
-scale-requires c κs = search needs
-
-scale-result-requires : tie.Need-scale-result-requires
-scale-result-requires c κs = search needs
-
 returns : tie.Need-returns
 returns c = simp (c .scale-result .ensures, c .before .scale .ensures)
 
 pub juvrada-scale-spec : {M : Type 1} → statement M
-juvrada-scale-spec = tie.close (tie.spec scale-requires scale-result-requires returns)
+juvrada-scale-spec = tie.close (tie.spec (λ c κs. search needs) (λ c κs. search needs) returns)

@@ -4,19 +4,10 @@ use borrow.Author.Needs.{needs}
 use Rattle.juvrada.proofs.juvrada_taps_height.Statement.{statement}
 use Rattle.juvrada.proofs.juvrada_taps_height.Tie as tie
 
-taps-of-requires : tie.Need-taps-of-requires
-taps-of-requires c κs = search needs
-
-taps-height-requires : tie.Need-taps-height-requires
-taps-height-requires c κs = search needs
-
-height-result-requires : tie.Need-height-result-requires
-height-result-requires c κs = search needs
-
 returns : tie.Need-returns
 returns c =
     record { height = c .before .taps-height .result; result = c .height-result .ensures; promised = same-taps (c .before .before .taps-of .ensures) (c .before .taps-height .ensures) }
 
 pub juvrada-taps-height-spec : {M : Type 1} → statement M
 juvrada-taps-height-spec =
-    tie.close (tie.spec taps-of-requires taps-height-requires height-result-requires returns)
+    tie.close (tie.spec (λ c κs. search needs) (λ c κs. search needs) (λ c κs. search needs) returns)

@@ -5,7 +5,7 @@ use Rattle.generator.specs.Marks.{stored}
 use Rattle.taps.specs.declared.Taps.{Taps}
 use Rattle.taps.specs.Formula.{usedOf}
 use Rattle.taps.specs.Marks.{tapMarks}
-use Rattle.sheet.specs.declared.Answer.the-variants.{Accepted}
+use Rattle.api.specs.declared.Answer.the-variants.{Accepted}
 use Rattle.juvrada.specs.Results.{tapsAnswer}
 use Rattle.juvrada.proofs.Same.{same-marks}
 use borrow.Author.Needs.{needs}
@@ -16,18 +16,9 @@ accepted : {marks : Marks} {taps known : Taps} → marks ≡ stored (tapMarks ta
 unfolding tapsAnswer
 accepted e h = simp (e, h)
 
-taps-of-requires : tie.Need-taps-of-requires
-taps-of-requires c κs = search needs
-
-taps-marks-requires : tie.Need-taps-marks-requires
-taps-marks-requires c κs = search needs
-
-lay-marks-requires : tie.Need-lay-marks-requires
-lay-marks-requires c κs = search needs
-
 returns : tie.Need-returns
 returns c = same-marks (accepted (c .before .before .before .taps-marks .ensures) (c .before .before .before .before .taps-of .ensures)) (c .lay-marks .ensures)
 
 pub juvrada-taps-marks-spec : {M : Type 1} → statement M
 juvrada-taps-marks-spec =
-    tie.close (tie.spec taps-of-requires taps-marks-requires lay-marks-requires returns)
+    tie.close (tie.spec (λ c κs. search needs) (λ c κs. search needs) (λ c κs. search needs) returns)

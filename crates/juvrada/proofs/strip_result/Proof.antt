@@ -4,15 +4,6 @@ use borrow.Author.Needs.{needs}
 use Rattle.juvrada.proofs.strip_result.Statement.{statement}
 use Rattle.juvrada.proofs.strip_result.Tie as tie
 
-enum-known-answer : tie.Need-enum-known-answer
-enum-known-answer c = search needs
-
-enum-known-answer-2 : tie.Need-enum-known-answer-2
-enum-known-answer-2 c = search needs
-
-refusal-number-requires : tie.Need-refusal-number-requires
-refusal-number-requires c κs = search needs
-
 returns : tie.Need-returns
 unfolding stripResult
 returns c = simp (c .before .answer .given .1)
@@ -24,4 +15,4 @@ returns-2 c = simp (c .refusal-number .ensures, c .before .before .answer2 .give
 pub strip-result-spec : {M : Type 1} → statement M
 strip-result-spec =
     tie.close
-    (tie.spec enum-known-answer enum-known-answer-2 refusal-number-requires returns returns-2)
+    (tie.spec (λ c. search needs) (λ c. search needs) (λ c κs. search needs) returns returns-2)

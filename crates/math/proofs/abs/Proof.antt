@@ -9,11 +9,8 @@ use Rattle.math.proofs.abs.Tie as tie
 returns : tie.Need-returns
 returns c = negative _ (c .if1 .taken)
 
-unsigned-zero-requires : tie.Need-unsigned-zero-requires
-unsigned-zero-requires c κs = search needs
-
 returns-2 : tie.Need-returns-2
 returns-2 c = c .unsigned-zero .ensures ∙ not-negative _ (subst T (sym (c .before .before .good .0 .1)) tt) (c .before .if1 .left)
 
 pub abs-spec : {M : Type 1} → statement M
-abs-spec = tie.close (tie.spec returns unsigned-zero-requires returns-2)
+abs-spec = tie.close (tie.spec returns (λ c κs. search needs) returns-2)

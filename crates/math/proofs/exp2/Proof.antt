@@ -35,14 +35,8 @@ whole c =
     subst (λ (w : Float). Scales w (scaleOf (c .before .before .clamp .result))) (sym (c .floor .ensures))
     (subst (λ (x : Float). Scales (floorOf x) (scaleOf x)) (sym e) (clamped _ (subst (λ (x : Float). isNan x ≡ false) e n)))
 
-clamp-requires : tie.Need-clamp-requires
-clamp-requires c κs = search needs
-
 returns : tie.Need-returns
 returns c = nan-case _ _ (into (c .before)) (differs-from-itself _ (subst T (sym (c .if1 .taken)) tt))
-
-floor-requires : tie.Need-floor-requires
-floor-requires c κs = search needs
 
 float-to-int-field : tie.Need-float-to-int-field
 float-to-int-field c = whole (c .before) .whole
@@ -52,9 +46,6 @@ add-field c = whole (c .before) .scaled .added
 
 cast-field : tie.Need-cast-field
 cast-field c = (whole (c .before) .scaled .above, whole (c .before) .scaled .narrow)
-
-polynomial-requires : tie.Need-polynomial-requires
-polynomial-requires c κs = search needs
 
 mul-result : tie.Need-mul-result
 mul-result c = whole (c .before .before) .scaled .shifted
@@ -72,13 +63,13 @@ pub exp2-spec : {M : Type 1} → statement M
 exp2-spec =
     tie.close
     (tie.spec
-    clamp-requires
+    (λ c κs. search needs)
     returns
-    floor-requires
+    (λ c κs. search needs)
     float-to-int-field
     add-field
     cast-field
-    polynomial-requires
+    (λ c κs. search needs)
     mul-result
     float-from-bits-result
     returns-2)

@@ -18,14 +18,8 @@ returns c = high _ (held (c .before)) (not-true _ (c .if1 .taken))
 returns-2 : tie.Need-returns-2
 returns-2 c = low _ (held (c .before .before)) (not-true _ (c .if2 .taken))
 
-nearby-requires : tie.Need-nearby-requires
-nearby-requires c κs = search needs
-
-step-down-requires : tie.Need-step-down-requires
-step-down-requires c κs = search needs
-
 returns-3 : tie.Need-returns-3
 returns-3 c = simp (c .step-down .ensures, c .before .nearby .ensures) (between _ (held (c .before .before .before .before)) (not-false _ (c .before .before .before .if1 .left)) (not-false _ (c .before .before .if2 .left)) _ refl)
 
 pub far-floor-spec : {M : Type 1} → statement M
-far-floor-spec = tie.close (tie.spec returns returns-2 nearby-requires step-down-requires returns-3)
+far-floor-spec = tie.close (tie.spec returns returns-2 (λ c κs. search needs) (λ c κs. search needs) returns-3)

@@ -4,12 +4,9 @@ use borrow.Author.Needs.{needs}
 use Rattle.math.proofs.fract.Statement.{statement}
 use Rattle.math.proofs.fract.Tie as tie
 
-floor-requires : tie.Need-floor-requires
-floor-requires c κs = search needs
-
 returns : tie.Need-returns
 unfolding fractOf
 returns c = simp (c .floor .ensures)
 
 pub fract-spec : {M : Type 1} → statement M
-fract-spec = tie.close (tie.spec floor-requires returns)
+fract-spec = tie.close (tie.spec (λ c κs. search needs) returns)

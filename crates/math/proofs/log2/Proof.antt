@@ -29,17 +29,11 @@ cast-exponent c = field (c .before) .field
 sub-exponent : tie.Need-sub-exponent
 sub-exponent c = field (c .before) .sum
 
-add-mantissa : tie.Need-add-mantissa
-add-mantissa c = search needs
-
 float-from-bits-mantissa : tie.Need-float-from-bits-mantissa
 float-from-bits-mantissa c = mantissa-number (toBits binary32 (c .before .args .x))
 
 int-to-float-result : tie.Need-int-to-float-result
 int-to-float-result c = field (c .before .before) .exact
-
-log2-mantissa-requires : tie.Need-log2-mantissa-requires
-log2-mantissa-requires c κs = search needs
 
 returns-2 : tie.Need-returns-2
 unfolding log2Of log2Bits
@@ -53,8 +47,8 @@ log2-spec =
     float-to-bits-bits
     cast-exponent
     sub-exponent
-    add-mantissa
+    (λ c. search needs)
     float-from-bits-mantissa
     int-to-float-result
-    log2-mantissa-requires
+    (λ c κs. search needs)
     returns-2)

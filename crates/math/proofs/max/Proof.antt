@@ -22,12 +22,9 @@ returns-4 : tie.Need-returns-4
 unfolding maxOf
 returns-4 c = simp (is-nan false _ (c .before .before .before .if1 .left), is-nan false _ (c .before .before .if2 .left), c .before .if3 .left, c .if4 .taken)
 
-unsigned-zero-requires : tie.Need-unsigned-zero-requires
-unsigned-zero-requires c κs = search needs
-
 returns-5 : tie.Need-returns-5
 unfolding maxOf
 returns-5 c = simp (is-nan false _ (c .before .before .before .before .if1 .left), is-nan false _ (c .before .before .before .if2 .left), c .before .before .if3 .left, c .before .if4 .left, c .unsigned-zero .ensures)
 
 pub max-spec : {M : Type 1} → statement M
-max-spec = tie.close (tie.spec returns returns-2 returns-3 returns-4 unsigned-zero-requires returns-5)
+max-spec = tie.close (tie.spec returns returns-2 returns-3 returns-4 (λ c κs. search needs) returns-5)

@@ -10,15 +10,9 @@ returns : tie.Need-returns
 unfolding pageText
 returns c = simp (ne-eqb _ _ (c .if1 .taken)) (puts-none _ _)
 
-put-page-requires : tie.Need-put-page-requires
-put-page-requires c κs = search needs
-
-same-length : tie.Need-same-length
-same-length c = search needs
-
 returns-2 : tie.Need-returns-2
 unfolding pageText
 returns-2 c = simp (c .before .before .before .before .if1 .left) (c .before .before .put-page .ensures)
 
 pub page-spec : {M : Type 1} → statement M
-page-spec = tie.close (tie.spec returns put-page-requires same-length returns-2)
+page-spec = tie.close (tie.spec returns (λ c κs. search needs) (λ c. search needs) returns-2)

@@ -6,21 +6,6 @@ use borrow.Author.Needs.{needs}
 use Rattle.page.proofs.put_chosen.Statement.{statement}
 use Rattle.page.proofs.put_chosen.Tie as tie
 
-choose-requires : tie.Need-choose-requires
-choose-requires c κs = search needs
-
-enum-known-chosen : tie.Need-enum-known-chosen
-enum-known-chosen c = search needs
-
-put-drawn-requires : tie.Need-put-drawn-requires
-put-drawn-requires c κs = search needs
-
-enum-told : tie.Need-enum-told
-enum-told c = search needs
-
-same-length : tie.Need-same-length
-same-length c = search needs
-
 returns : tie.Need-returns
 unfolding chosenText
 returns c = simp (sym (c .before .before .before .before .before .before .before .choose .ensures), c .before .before .before .before .before .chosen .given .1) (c .before .before .put-drawn .ensures)
@@ -33,10 +18,10 @@ pub put-chosen-spec : {M : Type 1} → statement M
 put-chosen-spec =
     tie.close
     (tie.spec
-    choose-requires
-    enum-known-chosen
-    put-drawn-requires
-    enum-told
-    same-length
+    (λ c κs. search needs)
+    (λ c. search needs)
+    (λ c κs. search needs)
+    (λ c. search needs)
+    (λ c. search needs)
     returns
     returns-2)

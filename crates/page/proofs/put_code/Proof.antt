@@ -6,21 +6,6 @@ use borrow.Author.Needs.{needs}
 use Rattle.page.proofs.put_code.Statement.{statement}
 use Rattle.page.proofs.put_code.Tie as tie
 
-code-from-requires : tie.Need-code-from-requires
-code-from-requires c κs = search needs
-
-enum-known-read : tie.Need-enum-known-read
-enum-known-read c = search needs
-
-put-known-requires : tie.Need-put-known-requires
-put-known-requires c κs = search needs
-
-enum-told : tie.Need-enum-told
-enum-told c = search needs
-
-same-length : tie.Need-same-length
-same-length c = search needs
-
 returns : tie.Need-returns
 unfolding codeText
 returns c = simp (sym (c .before .before .before .before .before .before .before .code-from .ensures), c .before .before .before .before .before .read .given .1) (c .before .before .put-known .ensures)
@@ -33,10 +18,10 @@ pub put-code-spec : {M : Type 1} → statement M
 put-code-spec =
     tie.close
     (tie.spec
-    code-from-requires
-    enum-known-read
-    put-known-requires
-    enum-told
-    same-length
+    (λ c κs. search needs)
+    (λ c. search needs)
+    (λ c κs. search needs)
+    (λ c. search needs)
+    (λ c. search needs)
     returns
     returns-2)

@@ -5,18 +5,6 @@ use borrow.Author.Needs.{needs}
 use Rattle.page.proofs.put_known.Statement.{statement}
 use Rattle.page.proofs.put_known.Tie as tie
 
-put-name-requires : tie.Need-put-name-requires
-put-name-requires c κs = search needs
-
-put-frame-requires : tie.Need-put-frame-requires
-put-frame-requires c κs = search needs
-
-put-dials-requires : tie.Need-put-dials-requires
-put-dials-requires c κs = search needs
-
-same-length : tie.Need-same-length
-same-length c = search needs
-
 returns : tie.Need-returns
 unfolding codeText
 returns c =
@@ -27,4 +15,4 @@ returns c =
 pub put-known-spec : {M : Type 1} → statement M
 put-known-spec =
     tie.close
-    (tie.spec put-name-requires put-frame-requires put-dials-requires same-length returns)
+    (tie.spec (λ c κs. search needs) (λ c κs. search needs) (λ c κs. search needs) (λ c. search needs) returns)

@@ -21,21 +21,9 @@ loop-holds : tie.Need-loop-holds Inv-loop μ-loop
 unfolding panelsText
 loop-holds c = (search needs, search needs, puts-none _ _)
 
-put-panel-requires : tie.Need-put-panel-requires Inv-loop μ-loop
-put-panel-requires c κs = search needs
-
-add-k : tie.Need-add-k Inv-loop μ-loop
-add-k c = search needs
-
-loop-less : tie.Need-loop-less Inv-loop μ-loop
-loop-less c = search needs
-
 loop-again : tie.Need-loop-again Inv-loop μ-loop
 unfolding panelsText
 loop-again c = (search needs, search needs, rw add-one (c .before .before .before .before .before .loop .inv .2 ⨾ c .before .before .put-panel .ensures))
-
-same-length : tie.Need-same-length Inv-loop μ-loop
-same-length c = search needs
 
 returns : tie.Need-returns Inv-loop μ-loop
 returns c = let e : c .before .loop .k ≡ 14 = omega arith in rw e at (c .before .loop .inv .2)
@@ -47,9 +35,9 @@ put-panels-spec =
     Inv-loop
     μ-loop
     loop-holds
-    put-panel-requires
-    add-k
-    loop-less
+    (λ c κs. search needs)
+    (λ c. search needs)
+    (λ c. search needs)
     loop-again
-    same-length
+    (λ c. search needs)
     returns)

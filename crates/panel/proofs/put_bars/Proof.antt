@@ -17,34 +17,13 @@ Inv-loop out₀ at bars count next₀ i₀ out next i = (i ≤ count) × (count 
 abbrev μ-loop : tie.MeasureT-loop
 μ-loop out₀ at bars count next₀ i₀ out next i = count - i
 
-at-most-requires : tie.Need-at-most-requires Inv-loop μ-loop
-at-most-requires c κs = search needs
-
 loop-holds : tie.Need-loop-holds Inv-loop μ-loop
 unfolding someBars
 loop-holds c = (search needs, c .at-most .ensures .2, search needs, puts-none _ _)
 
-mul-put-bar : tie.Need-mul-put-bar Inv-loop μ-loop
-mul-put-bar c = search needs
-
-element-copy-out-put-bar : tie.Need-element-copy-out-put-bar Inv-loop μ-loop
-element-copy-out-put-bar c = search needs
-
-put-bar-requires : tie.Need-put-bar-requires Inv-loop μ-loop
-put-bar-requires c κs = search needs
-
-add-i : tie.Need-add-i Inv-loop μ-loop
-add-i c = search needs
-
-loop-less : tie.Need-loop-less Inv-loop μ-loop
-loop-less c = search needs
-
 loop-again : tie.Need-loop-again Inv-loop μ-loop
 unfolding someBars
 loop-again c = (search needs, search needs, search needs, rw add-one (c .before .before .before .before .before .before .loop .inv .3 ⨾ c .before .before .put-bar .ensures))
-
-same-length : tie.Need-same-length Inv-loop μ-loop
-same-length c = search needs
 
 returns : tie.Need-returns Inv-loop μ-loop
 unfolding barsText
@@ -56,13 +35,13 @@ put-bars-spec =
     (tie.spec
     Inv-loop
     μ-loop
-    at-most-requires
+    (λ c κs. search needs)
     loop-holds
-    mul-put-bar
-    element-copy-out-put-bar
-    put-bar-requires
-    add-i
-    loop-less
+    (λ c. search needs)
+    (λ c. search needs)
+    (λ c κs. search needs)
+    (λ c. search needs)
+    (λ c. search needs)
     loop-again
-    same-length
+    (λ c. search needs)
     returns)

@@ -5,18 +5,6 @@ use borrow.Author.Needs.{needs}
 use Rattle.panel.proofs.put_mark.Statement.{statement}
 use Rattle.panel.proofs.put_mark.Tie as tie
 
-nearest-requires : tie.Need-nearest-requires
-nearest-requires c κs = search needs
-
-put-rule-requires : tie.Need-put-rule-requires
-put-rule-requires c κs = search needs
-
-put-label-requires : tie.Need-put-label-requires
-put-label-requires c κs = search needs
-
-same-length : tie.Need-same-length
-same-length c = search needs
-
 returns : tie.Need-returns
 unfolding markText
 returns c =
@@ -26,4 +14,4 @@ returns c =
 
 pub put-mark-spec : {M : Type 1} → statement M
 put-mark-spec =
-    tie.close (tie.spec nearest-requires put-rule-requires put-label-requires same-length returns)
+    tie.close (tie.spec (λ c κs. search needs) (λ c κs. search needs) (λ c κs. search needs) (λ c. search needs) returns)

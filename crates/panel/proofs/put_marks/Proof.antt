@@ -17,37 +17,13 @@ Inv-loop out₀ at marks count next₀ i₀ out next i = (i ≤ count) × (count
 abbrev μ-loop : tie.MeasureT-loop
 μ-loop out₀ at marks count next₀ i₀ out next i = count - i
 
-at-most-requires : tie.Need-at-most-requires Inv-loop μ-loop
-at-most-requires c κs = search needs
-
 loop-holds : tie.Need-loop-holds Inv-loop μ-loop
 unfolding rulesText
 loop-holds c = (search needs, c .at-most .ensures .2, search needs, puts-none _ _)
 
-mul-mark : tie.Need-mul-mark Inv-loop μ-loop
-mul-mark c = search needs
-
-element-copy-out-mark : tie.Need-element-copy-out-mark Inv-loop μ-loop
-element-copy-out-mark c = search needs
-
-row-requires : tie.Need-row-requires Inv-loop μ-loop
-row-requires c κs = search needs
-
-put-mark-requires : tie.Need-put-mark-requires Inv-loop μ-loop
-put-mark-requires c κs = search needs
-
-add-i : tie.Need-add-i Inv-loop μ-loop
-add-i c = search needs
-
-loop-less : tie.Need-loop-less Inv-loop μ-loop
-loop-less c = search needs
-
 loop-again : tie.Need-loop-again Inv-loop μ-loop
 unfolding rulesText
 loop-again c = (search needs, search needs, search needs, rw add-one (rw (c .before .before .before .row .ensures .0) at (c .before .before .before .before .before .before .before .loop .inv .3 ⨾ c .before .before .put-mark .ensures)))
-
-same-length : tie.Need-same-length Inv-loop μ-loop
-same-length c = search needs
 
 returns : tie.Need-returns Inv-loop μ-loop
 unfolding marksText
@@ -59,14 +35,14 @@ put-marks-spec =
     (tie.spec
     Inv-loop
     μ-loop
-    at-most-requires
+    (λ c κs. search needs)
     loop-holds
-    mul-mark
-    element-copy-out-mark
-    row-requires
-    put-mark-requires
-    add-i
-    loop-less
+    (λ c. search needs)
+    (λ c. search needs)
+    (λ c κs. search needs)
+    (λ c κs. search needs)
+    (λ c. search needs)
+    (λ c. search needs)
     loop-again
-    same-length
+    (λ c. search needs)
     returns)

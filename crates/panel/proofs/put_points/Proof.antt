@@ -21,27 +21,9 @@ loop-holds : tie.Need-loop-holds Inv-loop μ-loop
 unfolding pointsText
 loop-holds c = (search needs, search needs, puts-none _ _)
 
-mul-put-point : tie.Need-mul-put-point Inv-loop μ-loop
-mul-put-point c = search needs
-
-shared-slice-read-put-point : tie.Need-shared-slice-read-put-point Inv-loop μ-loop
-shared-slice-read-put-point c = search needs
-
-put-point-requires : tie.Need-put-point-requires Inv-loop μ-loop
-put-point-requires c κs = search needs
-
-add-i : tie.Need-add-i Inv-loop μ-loop
-add-i c = search needs
-
-loop-less : tie.Need-loop-less Inv-loop μ-loop
-loop-less c = search needs
-
 loop-again : tie.Need-loop-again Inv-loop μ-loop
 unfolding pointsText
 loop-again c = (search needs, search needs, rw add-one (c .before .before .before .before .before .before .loop .inv .2 ⨾ c .before .before .put-point .ensures))
-
-same-length : tie.Need-same-length Inv-loop μ-loop
-same-length c = search needs
 
 returns : tie.Need-returns Inv-loop μ-loop
 returns c = let e : c .before .loop .i ≡ c .before .before .before .before .args .count = omega arith in rw e at (c .before .loop .inv .2)
@@ -53,11 +35,11 @@ put-points-spec =
     Inv-loop
     μ-loop
     loop-holds
-    mul-put-point
-    shared-slice-read-put-point
-    put-point-requires
-    add-i
-    loop-less
+    (λ c. search needs)
+    (λ c. search needs)
+    (λ c κs. search needs)
+    (λ c. search needs)
+    (λ c. search needs)
     loop-again
-    same-length
+    (λ c. search needs)
     returns)

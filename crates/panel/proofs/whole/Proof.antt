@@ -4,12 +4,9 @@ use borrow.Author.Needs.{needs}
 use Rattle.panel.proofs.whole.Statement.{statement}
 use Rattle.panel.proofs.whole.Tie as tie
 
-nearest-requires : tie.Need-nearest-requires
-nearest-requires c κs = search needs
-
 returns : tie.Need-returns
 unfolding wholeOf
 returns c = c .nearest .ensures .0
 
 pub whole-spec : {M : Type 1} → statement M
-whole-spec = tie.close (tie.spec nearest-requires returns)
+whole-spec = tie.close (tie.spec (λ c κs. search needs) returns)

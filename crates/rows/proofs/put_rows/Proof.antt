@@ -6,12 +6,6 @@ use borrow.Author.Needs.{needs}
 use Rattle.rows.proofs.put_rows.Statement.{statement}
 use Rattle.rows.proofs.put_rows.Tie as tie
 
-put-samples-requires : tie.Need-put-samples-requires
-put-samples-requires c κs = search needs
-
-same-length : tie.Need-same-length
-same-length c = search needs
-
 returns : tie.Need-returns
 unfolding rowsText
 returns c = simp (le-leb _ _ (c .before .before .before .before .if1 .taken)) (c .before .before .put-samples .ensures)
@@ -21,4 +15,4 @@ unfolding rowsText
 returns-2 c = simp (lt-leb _ _ (c .if1 .left)) (puts-none _ _)
 
 pub put-rows-spec : {M : Type 1} → statement M
-put-rows-spec = tie.close (tie.spec put-samples-requires same-length returns returns-2)
+put-rows-spec = tie.close (tie.spec (λ c κs. search needs) (λ c. search needs) returns returns-2)

@@ -18,20 +18,8 @@ abbrev μ-loop : tie.MeasureT-loop
 loop-holds : tie.Need-loop-holds Inv-loop μ-loop
 loop-holds c = (search needs, search needs, no-row _)
 
-put-sample-requires : tie.Need-put-sample-requires Inv-loop μ-loop
-put-sample-requires c κs = search needs
-
-add-i : tie.Need-add-i Inv-loop μ-loop
-add-i c = search needs
-
-loop-less : tie.Need-loop-less Inv-loop μ-loop
-loop-less c = search needs
-
 loop-again : tie.Need-loop-again Inv-loop μ-loop
 loop-again c = (search needs, search needs, row-more _ _ (c .before .before .before .before .before .loop .inv .2) (c .before .before .put-sample .ensures))
-
-same-length : tie.Need-same-length Inv-loop μ-loop
-same-length c = search needs
 
 returns : tie.Need-returns Inv-loop μ-loop
 returns c = all-rows _ _ _ (c .before .loop .inv .0) (c .loop-test .left) (c .before .loop .inv .2)
@@ -43,9 +31,9 @@ put-samples-spec =
     Inv-loop
     μ-loop
     loop-holds
-    put-sample-requires
-    add-i
-    loop-less
+    (λ c κs. search needs)
+    (λ c. search needs)
+    (λ c. search needs)
     loop-again
-    same-length
+    (λ c. search needs)
     returns)

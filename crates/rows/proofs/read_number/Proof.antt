@@ -28,9 +28,6 @@ loop-holds : tie.Need-loop-holds Inv-loop μ-loop
 unfolding readOf
 loop-holds c = (search needs, search needs, search needs, simp (ne-eqb _ _ (c .before .if1 .left), le-ltb _ _ (c .if2 .left)))
 
-shared-slice-read-c : tie.Need-shared-slice-read-c Inv-loop μ-loop
-shared-slice-read-c c = search needs
-
 returns-3 : tie.Need-returns-3 Inv-loop μ-loop
 returns-3 c = read-below _ _ _ (c .before .before .loop-test .taken) (c .if3 .taken) _ (c .before .before .before .loop .inv .3)
 
@@ -40,17 +37,8 @@ returns-4 c = read-above _ _ _ (c .before .before .before .loop-test .taken) (c 
 mul-value : tie.Need-mul-value Inv-loop μ-loop
 mul-value c = let k = small _ _ (c .before .before .before .before .loop .inv .2) (omega arith) in omega arith
 
-cast-value : tie.Need-cast-value Inv-loop μ-loop
-cast-value c = omega arith
-
 add-value : tie.Need-add-value Inv-loop μ-loop
 add-value c = let k = small _ _ (c .before .before .before .before .loop .inv .2) (omega arith) in omega arith
-
-add-i : tie.Need-add-i Inv-loop μ-loop
-add-i c = search needs
-
-loop-less : tie.Need-loop-less Inv-loop μ-loop
-loop-less c = search needs
 
 loop-again : tie.Need-loop-again Inv-loop μ-loop
 loop-again c = (search needs, search needs, digit-small _ _ _ (c .before .before .before .before .loop .inv .2) (c .if4 .left), read-more _ _ _ (c .before .before .before .loop-test .taken) (c .before .if3 .left) (c .if4 .left) _ (c .before .before .before .before .loop .inv .3))
@@ -67,13 +55,13 @@ read-number-spec =
     returns
     returns-2
     loop-holds
-    shared-slice-read-c
+    (λ c. search needs)
     returns-3
     returns-4
     mul-value
-    cast-value
+    (λ c. omega arith)
     add-value
-    add-i
-    loop-less
+    (λ c. search needs)
+    (λ c. search needs)
     loop-again
     returns-5)

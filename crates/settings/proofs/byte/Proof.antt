@@ -4,12 +4,9 @@ use borrow.Author.Needs.{needs}
 use Rattle.settings.proofs.byte.Statement.{statement}
 use Rattle.settings.proofs.byte.Tie as tie
 
-from-u16-requires : tie.Need-from-u16-requires
-from-u16-requires c κs = search needs
-
 returns : tie.Need-returns
 unfolding byteOf
 returns c = simp (c .from-u16 .ensures)
 
 pub byte-spec : {M : Type 1} → statement M
-byte-spec = tie.close (tie.spec from-u16-requires returns)
+byte-spec = tie.close (tie.spec (λ c κs. search needs) returns)

@@ -4,18 +4,6 @@ use borrow.Author.Needs.{needs}
 use Rattle.settings.proofs.lfo_from.Statement.{statement}
 use Rattle.settings.proofs.lfo_from.Tie as tie
 
-shape-from-requires : tie.Need-shape-from-requires
-shape-from-requires c κs = search needs
-
-shape-from-requires-2 : tie.Need-shape-from-requires-2
-shape-from-requires-2 c κs = search needs
-
-turns-requires : tie.Need-turns-requires
-turns-requires c κs = search needs
-
-byte-requires : tie.Need-byte-requires
-byte-requires c κs = search needs
-
 returns : tie.Need-returns
 unfolding lfoOf
 returns c =
@@ -24,4 +12,4 @@ returns c =
 pub lfo-from-spec : {M : Type 1} → statement M
 lfo-from-spec =
     tie.close
-    (tie.spec shape-from-requires shape-from-requires-2 turns-requires byte-requires returns)
+    (tie.spec (λ c κs. search needs) (λ c κs. search needs) (λ c κs. search needs) (λ c κs. search needs) returns)

@@ -4,12 +4,9 @@ use borrow.Author.Needs.{needs}
 use Rattle.settings.proofs.noise_from.Statement.{statement}
 use Rattle.settings.proofs.noise_from.Tie as tie
 
-byte-requires : tie.Need-byte-requires
-byte-requires c κs = search needs
-
 returns : tie.Need-returns
 unfolding noiseOf
 returns c = simp (c .byte .ensures)
 
 pub noise-from-spec : {M : Type 1} → statement M
-noise-from-spec = tie.close (tie.spec byte-requires returns)
+noise-from-spec = tie.close (tie.spec (λ c κs. search needs) returns)

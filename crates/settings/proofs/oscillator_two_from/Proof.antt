@@ -4,12 +4,9 @@ use borrow.Author.Needs.{needs}
 use Rattle.settings.proofs.oscillator_two_from.Statement.{statement}
 use Rattle.settings.proofs.oscillator_two_from.Tie as tie
 
-byte-requires : tie.Need-byte-requires
-byte-requires c κs = search needs
-
 returns : tie.Need-returns
 unfolding oscillatorTwoOf
 returns c = simp (c .byte .ensures)
 
 pub oscillator-two-from-spec : {M : Type 1} → statement M
-oscillator-two-from-spec = tie.close (tie.spec byte-requires returns)
+oscillator-two-from-spec = tie.close (tie.spec (λ c κs. search needs) returns)

@@ -4,12 +4,6 @@ use borrow.Author.Needs.{needs}
 use Rattle.settings.proofs.sustain_end.Statement.{statement}
 use Rattle.settings.proofs.sustain_end.Tie as tie
 
-byte-requires : tie.Need-byte-requires
-byte-requires c κs = search needs
-
-byte-requires-2 : tie.Need-byte-requires-2
-byte-requires-2 c κs = search needs
-
 returns : tie.Need-returns
 unfolding sustainEndOf sloped slopeOf
 returns c =
@@ -21,4 +15,4 @@ returns-2 c =
     simp (c .before .before .byte .ensures, c .before .byte2 .ensures, simp (c .before .byte2 .ensures) at (c .if1 .left))
 
 pub sustain-end-spec : {M : Type 1} → statement M
-sustain-end-spec = tie.close (tie.spec byte-requires byte-requires-2 returns returns-2)
+sustain-end-spec = tie.close (tie.spec (λ c κs. search needs) (λ c κs. search needs) returns returns-2)

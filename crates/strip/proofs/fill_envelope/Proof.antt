@@ -8,7 +8,8 @@ use Rattle.curve.specs.Curve.{drawnOf}
 use Rattle.envelope.specs.Formula as envelope
 use Rattle.generator.specs.declared.Shape.the-variants.{Envelope as AnEnvelope}
 use Rattle.generator.specs.Heights.{heightOf}
-use Rattle.strip.specs.Strip.{written, filledOf}
+use Rattle.strip.specs.Strip.{filledOf}
+use Rattle.lists.specs.Written.{written}
 use Rattle.strip.proofs.Lengths.{between}
 use Rattle.strip.proofs.Filling.{at-position, filled-next, stepless, refused, accepted}
 use Rattle.strip.proofs.fill_envelope.Statement.{statement}
@@ -20,9 +21,6 @@ Inv-loop e out₀ n last i₀ out i = (length out ≡ length out₀) × (i ≤ n
 abbrev μ-loop : tie.MeasureT-loop
 μ-loop e out₀ n last i₀ out i = n - i
 
-fits-requires : tie.Need-fits-requires Inv-loop μ-loop
-fits-requires c κs = search needs
-
 returns : tie.Need-returns Inv-loop μ-loop
 returns c = refused (AnEnvelope (c .before .before .before .args .e)) _ (c .before .fits2 .ensures) (c .if1 .taken)
 
@@ -32,27 +30,6 @@ last-of-requires c κs = between _ (c .before .fits2 .ensures) (c .if1 .left)
 loop-holds : tie.Need-loop-holds Inv-loop μ-loop
 unfolding written
 loop-holds c = (search needs, search needs, refl)
-
-cast-sample-position : tie.Need-cast-sample-position Inv-loop μ-loop
-cast-sample-position c = search needs
-
-sample-position-requires : tie.Need-sample-position-requires Inv-loop μ-loop
-sample-position-requires c κs = search needs
-
-envelope-height-requires : tie.Need-envelope-height-requires Inv-loop μ-loop
-envelope-height-requires c κs = search needs
-
-mul-out : tie.Need-mul-out Inv-loop μ-loop
-mul-out c = search needs
-
-slice-write-out : tie.Need-slice-write-out Inv-loop μ-loop
-slice-write-out c = search needs
-
-add-i : tie.Need-add-i Inv-loop μ-loop
-add-i c = search needs
-
-loop-less : tie.Need-loop-less Inv-loop μ-loop
-loop-less c = search needs
 
 loop-again : tie.Need-loop-again Inv-loop μ-loop
 unfolding heightOf
@@ -79,17 +56,17 @@ fill-envelope-spec =
     (tie.spec
     Inv-loop
     μ-loop
-    fits-requires
+    (λ c κs. search needs)
     returns
     last-of-requires
     loop-holds
-    cast-sample-position
-    sample-position-requires
-    envelope-height-requires
-    mul-out
-    slice-write-out
-    add-i
-    loop-less
+    (λ c. search needs)
+    (λ c κs. search needs)
+    (λ c κs. search needs)
+    (λ c. search needs)
+    (λ c. search needs)
+    (λ c. search needs)
+    (λ c. search needs)
     loop-again
     same-length
     returns-2)

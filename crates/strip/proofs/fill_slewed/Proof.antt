@@ -6,7 +6,8 @@ use native.Mathlib.Omega.{arith}
 use borrow.Author.Needs.{needs}
 use lib.ListN.{length, length-set}
 use Rattle.generator.specs.declared.Shape.the-variants.{Lfo as AnLfo}
-use Rattle.strip.specs.Strip.{written, filledOf, stepSum}
+use Rattle.strip.specs.Strip.{filledOf, stepSum}
+use Rattle.lists.specs.Written.{written}
 use Rattle.strip.proofs.Lengths.{between}
 use Rattle.strip.proofs.Slew.{with-slew}
 use Rattle.strip.proofs.Filling.{at-position, steps-small, total-small, sum-next, filled-next, refused, accepted}
@@ -20,9 +21,6 @@ Inv-loop l out₀ count last total₀ i₀ out total i =
 abbrev μ-loop : tie.MeasureT-loop
 μ-loop l out₀ count last total₀ i₀ out total i = count - i
 
-fits-requires : tie.Need-fits-requires Inv-loop μ-loop
-fits-requires c κs = search needs
-
 returns : tie.Need-returns Inv-loop μ-loop
 returns c = refused (AnLfo (c .before .before .before .args .l)) _ (c .before .fits2 .ensures) (c .if1 .taken)
 
@@ -33,21 +31,6 @@ loop-holds : tie.Need-loop-holds Inv-loop μ-loop
 unfolding stepSum written
 loop-holds c = (search needs, search needs, refl, refl)
 
-cast-sample-position : tie.Need-cast-sample-position Inv-loop μ-loop
-cast-sample-position c = search needs
-
-sample-position-requires : tie.Need-sample-position-requires Inv-loop μ-loop
-sample-position-requires c κs = search needs
-
-slewed-height-requires : tie.Need-slewed-height-requires Inv-loop μ-loop
-slewed-height-requires c κs = search needs
-
-mul-out : tie.Need-mul-out Inv-loop μ-loop
-mul-out c = search needs
-
-slice-write-out : tie.Need-slice-write-out Inv-loop μ-loop
-slice-write-out c = search needs
-
 add-total : tie.Need-add-total Inv-loop μ-loop
 add-total c =
     let l = c .before .before .before .before in
@@ -57,12 +40,6 @@ add-total c =
     let h = steps-small s _ _ w in
     let k = total-small s _ _ (inv .2) in
     omega arith
-
-add-i : tie.Need-add-i Inv-loop μ-loop
-add-i c = search needs
-
-loop-less : tie.Need-loop-less Inv-loop μ-loop
-loop-less c = search needs
 
 loop-again : tie.Need-loop-again Inv-loop μ-loop
 loop-again c =
@@ -87,18 +64,18 @@ fill-slewed-spec =
     (tie.spec
     Inv-loop
     μ-loop
-    fits-requires
+    (λ c κs. search needs)
     returns
     last-of-requires
     loop-holds
-    cast-sample-position
-    sample-position-requires
-    slewed-height-requires
-    mul-out
-    slice-write-out
+    (λ c. search needs)
+    (λ c κs. search needs)
+    (λ c κs. search needs)
+    (λ c. search needs)
+    (λ c. search needs)
     add-total
-    add-i
-    loop-less
+    (λ c. search needs)
+    (λ c. search needs)
     loop-again
     same-length
     returns-2)

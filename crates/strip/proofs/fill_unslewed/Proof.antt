@@ -5,7 +5,8 @@ use native.Mathlib.Nat.{le-antisymm}
 use borrow.Author.Needs.{needs}
 use lib.ListN.{length, length-set}
 use Rattle.generator.specs.declared.Shape.the-variants.{Lfo as AnLfo}
-use Rattle.strip.specs.Strip.{written, filledOf}
+use Rattle.strip.specs.Strip.{filledOf}
+use Rattle.lists.specs.Written.{written}
 use Rattle.strip.proofs.Lengths.{between}
 use Rattle.strip.proofs.Slew.{without-slew, without-steps}
 use Rattle.strip.proofs.Filling.{at-position, filled-next, stepless, refused, accepted}
@@ -18,9 +19,6 @@ Inv-loop l out₀ n last i₀ out i = (length out ≡ length out₀) × (i ≤ n
 abbrev μ-loop : tie.MeasureT-loop
 μ-loop l out₀ n last i₀ out i = n - i
 
-fits-requires : tie.Need-fits-requires Inv-loop μ-loop
-fits-requires c κs = search needs
-
 returns : tie.Need-returns Inv-loop μ-loop
 returns c = refused (AnLfo (c .before .before .before .args .l)) _ (c .before .fits2 .ensures) (c .if1 .taken)
 
@@ -30,27 +28,6 @@ last-of-requires c κs = between _ (c .before .fits2 .ensures) (c .if1 .left)
 loop-holds : tie.Need-loop-holds Inv-loop μ-loop
 unfolding written
 loop-holds c = (search needs, search needs, refl)
-
-cast-sample-position : tie.Need-cast-sample-position Inv-loop μ-loop
-cast-sample-position c = search needs
-
-sample-position-requires : tie.Need-sample-position-requires Inv-loop μ-loop
-sample-position-requires c κs = search needs
-
-unslewed-height-requires : tie.Need-unslewed-height-requires Inv-loop μ-loop
-unslewed-height-requires c κs = search needs
-
-mul-out : tie.Need-mul-out Inv-loop μ-loop
-mul-out c = search needs
-
-slice-write-out : tie.Need-slice-write-out Inv-loop μ-loop
-slice-write-out c = search needs
-
-add-i : tie.Need-add-i Inv-loop μ-loop
-add-i c = search needs
-
-loop-less : tie.Need-loop-less Inv-loop μ-loop
-loop-less c = search needs
 
 loop-again : tie.Need-loop-again Inv-loop μ-loop
 loop-again c =
@@ -75,17 +52,17 @@ fill-unslewed-spec =
     (tie.spec
     Inv-loop
     μ-loop
-    fits-requires
+    (λ c κs. search needs)
     returns
     last-of-requires
     loop-holds
-    cast-sample-position
-    sample-position-requires
-    unslewed-height-requires
-    mul-out
-    slice-write-out
-    add-i
-    loop-less
+    (λ c. search needs)
+    (λ c κs. search needs)
+    (λ c κs. search needs)
+    (λ c. search needs)
+    (λ c. search needs)
+    (λ c. search needs)
+    (λ c. search needs)
     loop-again
     same-length
     returns-2)

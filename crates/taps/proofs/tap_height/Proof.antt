@@ -5,12 +5,6 @@ use Rattle.taps.proofs.Width.{between, beyond-right, beyond-left}
 use Rattle.taps.proofs.tap_height.Statement.{statement}
 use Rattle.taps.proofs.tap_height.Tie as tie
 
-abs-requires : tie.Need-abs-requires
-abs-requires c κs = search needs
-
-max-requires : tie.Need-max-requires
-max-requires c κs = search needs
-
 returns : tie.Need-returns
 unfolding tapHeightOf
 returns c = simp (c .max .ensures, c .before .abs .ensures, between _ (c .before .before .before .if1 .taken) (c .before .before .if2 .taken))
@@ -24,4 +18,4 @@ unfolding tapHeightOf
 returns-3 c = simp (beyond-right _ (c .if1 .left))
 
 pub tap-height-spec : {M : Type 1} → statement M
-tap-height-spec = tie.close (tie.spec abs-requires max-requires returns returns-2 returns-3)
+tap-height-spec = tie.close (tie.spec (λ c κs. search needs) (λ c κs. search needs) returns returns-2 returns-3)

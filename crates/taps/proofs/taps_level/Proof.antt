@@ -15,33 +15,9 @@ Inv-loop t taps count height₀ i₀ height i = (i ≤ count) × (count ≤ 4) �
 abbrev μ-loop : tie.MeasureT-loop
 μ-loop t taps count height₀ i₀ height i = count - i
 
-used-requires : tie.Need-used-requires Inv-loop μ-loop
-used-requires c κs = search needs
-
 loop-holds : tie.Need-loop-holds Inv-loop μ-loop
 unfolding tapsLevelOf
 loop-holds c = (search needs, omega (arith, c .used .ensures, used-at-most (c .before .args .t1)), c .used .ensures, refl)
-
-mul-tap-height : tie.Need-mul-tap-height Inv-loop μ-loop
-mul-tap-height c = search needs
-
-element-copy-out-tap-height : tie.Need-element-copy-out-tap-height Inv-loop μ-loop
-element-copy-out-tap-height c = search needs
-
-mul-tap-height-2 : tie.Need-mul-tap-height-2 Inv-loop μ-loop
-mul-tap-height-2 c = search needs
-
-element-copy-out-tap-height-2 : tie.Need-element-copy-out-tap-height-2 Inv-loop μ-loop
-element-copy-out-tap-height-2 c = search needs
-
-tap-height-requires : tie.Need-tap-height-requires Inv-loop μ-loop
-tap-height-requires c κs = search needs
-
-add-i : tie.Need-add-i Inv-loop μ-loop
-add-i c = search needs
-
-loop-less : tie.Need-loop-less Inv-loop μ-loop
-loop-less c = search needs
 
 loop-again : tie.Need-loop-again Inv-loop μ-loop
 unfolding tapsLevelOf
@@ -56,14 +32,14 @@ taps-level-spec =
     (tie.spec
     Inv-loop
     μ-loop
-    used-requires
+    (λ c κs. search needs)
     loop-holds
-    mul-tap-height
-    element-copy-out-tap-height
-    mul-tap-height-2
-    element-copy-out-tap-height-2
-    tap-height-requires
-    add-i
-    loop-less
+    (λ c. search needs)
+    (λ c. search needs)
+    (λ c. search needs)
+    (λ c. search needs)
+    (λ c κs. search needs)
+    (λ c. search needs)
+    (λ c. search needs)
     loop-again
     returns)

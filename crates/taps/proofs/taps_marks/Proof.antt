@@ -18,30 +18,9 @@ Inv-loop taps count marks₀ i₀ marks i = (i ≤ count) × (count ≤ 4) × (c
 abbrev μ-loop : tie.MeasureT-loop
 μ-loop taps count marks₀ i₀ marks i = count - i
 
-used-requires : tie.Need-used-requires Inv-loop μ-loop
-used-requires c κs = search needs
-
-no-marks-requires : tie.Need-no-marks-requires Inv-loop μ-loop
-no-marks-requires c κs = search needs
-
 loop-holds : tie.Need-loop-holds Inv-loop μ-loop
 unfolding tapMarks noMarks
 loop-holds c = (search needs, omega (arith, c .before .used .ensures, used-at-most (c .before .before .args .t1)), c .before .used .ensures, c .no-marks .ensures)
-
-mul-push : tie.Need-mul-push Inv-loop μ-loop
-mul-push c = search needs
-
-element-copy-out-push : tie.Need-element-copy-out-push Inv-loop μ-loop
-element-copy-out-push c = search needs
-
-push-requires : tie.Need-push-requires Inv-loop μ-loop
-push-requires c κs = search needs
-
-add-i : tie.Need-add-i Inv-loop μ-loop
-add-i c = search needs
-
-loop-less : tie.Need-loop-less Inv-loop μ-loop
-loop-less c = search needs
 
 loop-again : tie.Need-loop-again Inv-loop μ-loop
 unfolding tapMarks
@@ -56,13 +35,13 @@ taps-marks-spec =
     (tie.spec
     Inv-loop
     μ-loop
-    used-requires
-    no-marks-requires
+    (λ c κs. search needs)
+    (λ c κs. search needs)
     loop-holds
-    mul-push
-    element-copy-out-push
-    push-requires
-    add-i
-    loop-less
+    (λ c. search needs)
+    (λ c. search needs)
+    (λ c κs. search needs)
+    (λ c. search needs)
+    (λ c. search needs)
     loop-again
     returns)

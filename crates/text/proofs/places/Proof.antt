@@ -23,12 +23,6 @@ power-requires c κs = (search needs, ten-fits _ (c .loop-test .taken))
 returns : tie.Need-returns Inv-loop μ-loop
 returns c = (sym (places-hold _ _ _ (omega arith) (rw (c .before .power .ensures) at (c .if1 .taken))) ∙ c .before .before .before .loop .inv .2, search needs, search needs)
 
-add-k : tie.Need-add-k Inv-loop μ-loop
-add-k c = search needs
-
-loop-less : tie.Need-loop-less Inv-loop μ-loop
-loop-less c = search needs
-
 loop-again : tie.Need-loop-again Inv-loop μ-loop
 loop-again c = (search needs, search needs, places-pass _ _ (c .before .before .loop-test .taken) (rw (c .before .power .ensures) at (c .if1 .left)) ∙ c .before .before .before .loop .inv .2)
 
@@ -44,7 +38,7 @@ places-spec =
     loop-holds
     power-requires
     returns
-    add-k
-    loop-less
+    (λ c. search needs)
+    (λ c. search needs)
     loop-again
     returns-2)

@@ -28,12 +28,6 @@ loop-holds c = (omega arith, sym (pow-zero _))
 mul-product : tie.Need-mul-product Inv-loop μ-loop
 mul-product c = record { fits = next-fits _ _ _ _ _ (c .before .before .pre .0) (c .before .before .pre .1) (c .loop-test .taken) (c .before .loop .inv .1) }
 
-add-i : tie.Need-add-i Inv-loop μ-loop
-add-i c = omega arith
-
-loop-less : tie.Need-loop-less Inv-loop μ-loop
-loop-less c = omega arith
-
 loop-again : tie.Need-loop-again Inv-loop μ-loop
 loop-again c = (omega arith, next-power _ _ _ (c .before .loop .inv .1))
 
@@ -45,4 +39,4 @@ returns c = last _ _ _ _ (c .before .loop .inv .0) (c .loop-test .left) (c .befo
 
 pub power-spec : {M : Type 1} → statement M
 power-spec =
-    tie.close (tie.spec Inv-loop μ-loop loop-holds mul-product add-i loop-less loop-again returns)
+    tie.close (tie.spec Inv-loop μ-loop loop-holds mul-product (λ c. omega arith) (λ c. omega arith) loop-again returns)

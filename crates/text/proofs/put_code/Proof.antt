@@ -13,27 +13,6 @@ code : (b u v : ℕ) → u ≡ upperOf (b / 16) → v ≡ upperOf (b % 16) → a
 unfolding codeOf
 code b u v eu ev = rw (eu, ev)
 
-slice-aggregate-put : tie.Need-slice-aggregate-put
-slice-aggregate-put c = refl
-
-put-requires : tie.Need-put-requires
-put-requires c κs = search needs
-
-upper-requires : tie.Need-upper-requires
-upper-requires c κs = search needs
-
-put-byte-requires : tie.Need-put-byte-requires
-put-byte-requires c κs = search needs
-
-upper-requires-2 : tie.Need-upper-requires-2
-upper-requires-2 c κs = search needs
-
-put-byte-requires-2 : tie.Need-put-byte-requires-2
-put-byte-requires-2 c κs = search needs
-
-same-length : tie.Need-same-length
-same-length c = search needs
-
 returns : tie.Need-returns
 returns c = puts-as (code _ _ _ (c .before .before .before .before .before .before .before .before .upper .ensures) (c .before .before .before .upper2 .ensures)) (c .before .before .before .before .before .before .before .before .before .before .before .before .put .ensures ⨾ c .before .before .before .before .before .before .before .put-byte .ensures ⨾ c .before .before .put-byte2 .ensures)
 
@@ -41,11 +20,11 @@ pub put-code-spec : {M : Type 1} → statement M
 put-code-spec =
     tie.close
     (tie.spec
-    slice-aggregate-put
-    put-requires
-    upper-requires
-    put-byte-requires
-    upper-requires-2
-    put-byte-requires-2
-    same-length
+    (λ c. refl)
+    (λ c κs. search needs)
+    (λ c κs. search needs)
+    (λ c κs. search needs)
+    (λ c κs. search needs)
+    (λ c κs. search needs)
+    (λ c. search needs)
     returns)

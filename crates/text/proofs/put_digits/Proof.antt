@@ -32,32 +32,17 @@ positive w base k h e = rw e (power-positive base k h)
 loop-holds : tie.Need-loop-holds Inv-loop μ-loop
 loop-holds c = (search needs, search needs, left-all)
 
-sub-left : tie.Need-sub-left Inv-loop μ-loop
-sub-left c = search needs
-
 power-requires : tie.Need-power-requires Inv-loop μ-loop
 power-requires c κs = (c .before .before .before .pre .0, power-fits _ _ _ _ (c .before .before .before .pre .0) (omega arith) (c .before .before .before .pre .2))
 
 div-digit : tie.Need-div-digit Inv-loop μ-loop
 div-digit c = positive _ _ _ (c .before .before .before .before .pre .0) (c .power .ensures)
 
-rem-digit : tie.Need-rem-digit Inv-loop μ-loop
-rem-digit c = search needs
-
 glyph-requires : tie.Need-glyph-requires Inv-loop μ-loop
 glyph-requires c κs = below _ _ (c .before .before .before .before .before .pre .0) (c .before .before .before .before .before .pre .1)
 
-put-byte-requires : tie.Need-put-byte-requires Inv-loop μ-loop
-put-byte-requires c κs = search needs
-
-loop-less : tie.Need-loop-less Inv-loop μ-loop
-loop-less c = search needs
-
 loop-again : tie.Need-loop-again Inv-loop μ-loop
 loop-again c = (search needs, search needs, digit-less _ _ _ (c .before .before .before .before .before .before .loop-test .taken) (c .before .before .before .before .before .power .ensures) (c .before .before .before .glyph .ensures) (c .before .before .before .before .before .before .before .loop .inv .2) (c .before .before .put-byte .ensures))
-
-same-length : tie.Need-same-length Inv-loop μ-loop
-same-length c = search needs
 
 returns : tie.Need-returns Inv-loop μ-loop
 returns c = left-none (rw (no-digits _ _ _ (c .loop-test .left)) at (c .before .loop .inv .2))
@@ -69,13 +54,13 @@ put-digits-spec =
     Inv-loop
     μ-loop
     loop-holds
-    sub-left
+    (λ c. search needs)
     power-requires
     div-digit
-    rem-digit
+    (λ c. search needs)
     glyph-requires
-    put-byte-requires
-    loop-less
+    (λ c κs. search needs)
+    (λ c. search needs)
     loop-again
-    same-length
+    (λ c. search needs)
     returns)

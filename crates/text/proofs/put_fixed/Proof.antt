@@ -19,29 +19,14 @@ fixed n places k w ek ew = rw (ew, ek)
 ten-positive : (w k : ℕ) → w ≡ 10 ^ k → 0 < w
 ten-positive w k e = rw e (power-positive 10 k (ltb→lt 1 10 tt))
 
-places-shown-requires : tie.Need-places-shown-requires
-places-shown-requires c κs = search needs
-
 power-requires : tie.Need-power-requires
 power-requires c κs = (search needs, ten-fits _ (omega arith))
 
 div-whole : tie.Need-div-whole
 div-whole c = ten-positive _ _ (c .power .ensures)
 
-put-decimal-requires : tie.Need-put-decimal-requires
-put-decimal-requires c κs = search needs
-
-slice-aggregate-put : tie.Need-slice-aggregate-put
-slice-aggregate-put c = refl
-
-put-requires : tie.Need-put-requires
-put-requires c κs = search needs
-
 put-digits-requires : tie.Need-put-digits-requires
 put-digits-requires c κs = (search needs, search needs, ten-fits _ (omega arith))
-
-same-length : tie.Need-same-length
-same-length c = search needs
 
 returns : tie.Need-returns
 returns c = puts-as (fixed _ _ _ _ (c .before .before .before .before .before .before .before .before .before .before .before .before .before .before .places-shown .ensures .0) (c .before .before .before .before .before .before .before .before .before .before .before .before .before .power .ensures)) (c .before .before .before .before .before .before .before .before .before .before .before .put-decimal .ensures ⨾ c .before .before .before .before .before .before .put .ensures ⨾ c .before .before .put-digits .ensures)
@@ -50,12 +35,12 @@ pub put-fixed-spec : {M : Type 1} → statement M
 put-fixed-spec =
     tie.close
     (tie.spec
-    places-shown-requires
+    (λ c κs. search needs)
     power-requires
     div-whole
-    put-decimal-requires
-    slice-aggregate-put
-    put-requires
+    (λ c κs. search needs)
+    (λ c. refl)
+    (λ c κs. search needs)
     put-digits-requires
-    same-length
+    (λ c. search needs)
     returns)

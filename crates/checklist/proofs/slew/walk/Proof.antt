@@ -10,49 +10,19 @@ Inv-loop shape slew six next₀ before₀ i₀ next before i = Unit {0}
 abbrev μ-loop : tie.MeasureT-loop
 μ-loop shape slew six next₀ before₀ i₀ next before i = 65 - i
 
-loop-holds : tie.Need-loop-holds Inv-loop μ-loop
-loop-holds c = tt
-
-part-requires : tie.Need-part-requires Inv-loop μ-loop
-part-requires c κs = tt
-
-lfo-requires : tie.Need-lfo-requires Inv-loop μ-loop
-lfo-requires c κs = tt
-
-height-requires : tie.Need-height-requires Inv-loop μ-loop
-height-requires c κs = tt
-
-enough-requires : tie.Need-enough-requires Inv-loop μ-loop
-enough-requires c κs = tt
-
-note-requires : tie.Need-note-requires Inv-loop μ-loop
-note-requires c κs = tt
-
-add-i : tie.Need-add-i Inv-loop μ-loop
-add-i c = omega arith
-
-loop-less : tie.Need-loop-less Inv-loop μ-loop
-loop-less c = omega arith
-
-loop-again : tie.Need-loop-again Inv-loop μ-loop
-loop-again c = tt
-
-returns : tie.Need-returns Inv-loop μ-loop
-returns c = tt
-
 pub walk-spec : {M : Type 1} → statement M
 walk-spec =
     tie.close
     (tie.spec
     Inv-loop
     μ-loop
-    loop-holds
-    part-requires
-    lfo-requires
-    height-requires
-    enough-requires
-    note-requires
-    add-i
-    loop-less
-    loop-again
-    returns)
+    (λ c. tt)
+    (λ c κs. tt)
+    (λ c κs. tt)
+    (λ c κs. tt)
+    (λ c κs. tt)
+    (λ c κs. tt)
+    (λ c. omega arith)
+    (λ c. omega arith)
+    (λ c. tt)
+    (λ c. tt))

@@ -4,24 +4,6 @@ use Rattle.generator.specs.Generator.{anchoredOf}
 use Rattle.generator.proofs.Generator.anchored.Statement.{statement}
 use Rattle.generator.proofs.Generator.anchored.Tie as tie
 
-enum-told : tie.Need-enum-told
-enum-told c = search needs
-
-enum-told-2 : tie.Need-enum-told-2
-enum-told-2 c = search needs
-
-enum-known-shape : tie.Need-enum-known-shape
-enum-known-shape c = search needs
-
-enum-told-3 : tie.Need-enum-told-3
-enum-told-3 c = search needs
-
-enum-told-4 : tie.Need-enum-told-4
-enum-told-4 c = search needs
-
-enum-told-5 : tie.Need-enum-told-5
-enum-told-5 c = search needs
-
 returns : tie.Need-returns
 unfolding anchoredOf
 returns c = simp (c .enum-told .given .1)
@@ -50,12 +32,12 @@ pub anchored-spec : {M : Type 1} → statement M
 anchored-spec =
     tie.close
     (tie.spec
-    enum-told
-    enum-told-2
-    enum-known-shape
-    enum-told-3
-    enum-told-4
-    enum-told-5
+    (λ c. search needs)
+    (λ c. search needs)
+    (λ c. search needs)
+    (λ c. search needs)
+    (λ c. search needs)
+    (λ c. search needs)
     returns
     returns-2
     returns-3

@@ -6,48 +6,6 @@ use Rattle.generator.proofs.Stored.{push-more, push-list}
 use Rattle.generator.proofs.Generator.marks.Statement.{statement}
 use Rattle.generator.proofs.Generator.marks.Tie as tie
 
-enum-known-shape : tie.Need-enum-known-shape
-enum-known-shape c = search needs
-
-envelope-marks-requires : tie.Need-envelope-marks-requires
-envelope-marks-requires c κs = search needs
-
-enum-known-shape-2 : tie.Need-enum-known-shape-2
-enum-known-shape-2 c = search needs
-
-fade-marks-requires : tie.Need-fade-marks-requires
-fade-marks-requires c κs = search needs
-
-enum-known-shape-3 : tie.Need-enum-known-shape-3
-enum-known-shape-3 c = search needs
-
-no-marks-requires : tie.Need-no-marks-requires
-no-marks-requires c κs = search needs
-
-cycles-requires : tie.Need-cycles-requires
-cycles-requires c κs = search needs
-
-enum-told : tie.Need-enum-told
-enum-told c = search needs
-
-no-marks-requires-2 : tie.Need-no-marks-requires-2
-no-marks-requires-2 c κs = search needs
-
-push-requires : tie.Need-push-requires
-push-requires c κs = search needs
-
-enum-known-shape-4 : tie.Need-enum-known-shape-4
-enum-known-shape-4 c = search needs
-
-oscillator-marks-requires : tie.Need-oscillator-marks-requires
-oscillator-marks-requires c κs = search needs
-
-enum-told-2 : tie.Need-enum-told-2
-enum-told-2 c = search needs
-
-no-marks-requires-3 : tie.Need-no-marks-requires-3
-no-marks-requires-3 c κs = search needs
-
 returns : tie.Need-returns
 unfolding marksOf markList
 returns c = simp (c .before .before .shape .given .1, c .envelope-marks .ensures)
@@ -76,20 +34,20 @@ pub marks-spec : {M : Type 1} → statement M
 marks-spec =
     tie.close
     (tie.spec
-    enum-known-shape
-    envelope-marks-requires
-    enum-known-shape-2
-    fade-marks-requires
-    enum-known-shape-3
-    no-marks-requires
-    cycles-requires
-    enum-told
-    no-marks-requires-2
-    push-requires
-    enum-known-shape-4
-    oscillator-marks-requires
-    enum-told-2
-    no-marks-requires-3
+    (λ c. search needs)
+    (λ c κs. search needs)
+    (λ c. search needs)
+    (λ c κs. search needs)
+    (λ c. search needs)
+    (λ c κs. search needs)
+    (λ c κs. search needs)
+    (λ c. search needs)
+    (λ c κs. search needs)
+    (λ c κs. search needs)
+    (λ c. search needs)
+    (λ c κs. search needs)
+    (λ c. search needs)
+    (λ c κs. search needs)
     returns
     returns-2
     returns-3

@@ -1,0 +1,27 @@
+//! How every side is called: in the form of the library's C functions. The reference has the same form, so that one loop of the driver calls
+//! them all, and no side's caller is laid out better than another's.
+
+use std::mem::MaybeUninit;
+
+/// Refusal and steps, which the library answers. The reference has neither, and doesn't spend an instruction on them.
+pub type Steps = MaybeUninit<[u32; 2]>;
+
+#[repr(C)]
+pub struct Answer {
+    pub steps: Steps,
+    pub height: f32,
+}
+
+#[repr(C)]
+pub struct StripAnswer {
+    pub steps: Steps,
+}
+
+/// Block, its length, code, position. The library's code may be a u8: x86-64 passes either in the same register.
+pub type Height = unsafe extern "C" fn(*const u8, usize, u32, f32) -> Answer;
+
+/// Block, its length, code, the samples and how many.
+pub type Strip = unsafe extern "C" fn(*const u8, usize, u32, *mut f32, usize) -> StripAnswer;
+
+/// The taps' positions, their heights, how many are used, position.
+pub type TapsHeight = unsafe extern "C" fn(*const f32, *const f32, u32, f32) -> Answer;

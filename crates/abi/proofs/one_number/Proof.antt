@@ -1,0 +1,12 @@
+-- `one_number` meets its contract. Assumes nothing.
+use mathlib.Core.Path.{refl}
+use Rattle.abi.specs.Numbers.{stored, placesOf}
+use Rattle.abi.proofs.one_number.Statement.{statement}
+use Rattle.abi.proofs.one_number.Tie as tie
+
+returns : tie.Need-returns
+unfolding stored placesOf
+returns c = refl
+
+pub one-number-spec : {M : Type 1} → statement M
+one-number-spec = tie.close (tie.spec returns)

@@ -1,0 +1,294 @@
+// Enums and settings as plain numbers, for a caller in another language.
+ghost use mathlib.Core.Path.{_≡_};
+ghost use mathlib.Core.List.{[], _∷_};
+ghost use Prim.Native.Nat.{_≤_};
+ghost use Rattle.generator.specs.Generator.{scaleNumber, scaleValue};
+ghost use Rattle.generator.specs.Marks.{segmentNumber, kindNumber};
+ghost use Rattle.lists.specs.Written.{written};
+ghost use Rattle.abi.specs.Arrays.{leastOf, markPosition, markKind, gateStart, gateEnd, settingAt, marksUsed, gatesUsed, settingsUsed};
+ghost use Rattle.abi.specs.Numbers.{flagOf, shapeNumber, passNumber, stored, settingsNumbers};
+use generator::GATES_DRAWN;
+use generator::Gates;
+use generator::MAX_MARKS;
+use generator::MarkKind;
+use generator::Marks;
+use generator::Scale;
+use generator::Segment;
+use generator::Shape;
+use settings::Envelope;
+use settings::Filter;
+use settings::Lfo;
+use settings::LfoShape;
+use settings::Oscillator;
+use settings::Pass;
+
+// The most settings that a generator has.
+pub const MAX_SETTINGS: usize = 8;
+
+// The first `count` places are settings; the others are 0.
+pub struct Numbers {
+    pub places: [f32; MAX_SETTINGS],
+    pub count: usize,
+}
+
+// ---- marks and scales
+pub fn segment_number(segment: Segment) -> u8
+    ensures { λ r. ⌜ r ≡ segmentNumber segment ⌝ }
+{
+    match segment {
+        Segment::Attack => 0,
+        Segment::Decay => 1,
+        Segment::Sustain => 2,
+        Segment::Release => 3,
+    }
+}
+
+pub fn kind_number(kind: MarkKind) -> u8
+    ensures { λ r. ⌜ r ≡ kindNumber kind ⌝ }
+{
+    match kind {
+        MarkKind::Segment(s) => segment_number(s),
+        MarkKind::Corner => 4,
+        MarkKind::Cycle => 5,
+        MarkKind::Tap => 6,
+        MarkKind::Width => 7,
+        MarkKind::Sweep => 8,
+    }
+}
+
+pub fn scale_number(scale: Scale) -> u32
+    ensures { λ r. ⌜ r ≡ scaleNumber scale ⌝ }
+{
+    match scale {
+        Scale::Normalised => 0,
+        Scale::Turns(_) => 1,
+        Scale::Octaves(_) => 2,
+    }
+}
+
+// The number that a scale carries, or 0.
+pub fn scale_value(scale: Scale) -> f32
+    ensures { λ r. ⌜ r ≡ scaleValue scale ⌝ }
+{
+    match scale {
+        Scale::Normalised => 0.0,
+        Scale::Turns(turns) => turns,
+        Scale::Octaves(octaves) => octaves,
+    }
+}
+
+// ---- settings
+fn flag(b: bool) -> f32
+    ensures { λ r. ⌜ r ≡ flagOf b ⌝ }
+{
+    if b {
+        return 1.0;
+    }
+    0.0
+}
+
+fn shape_number(shape: LfoShape) -> f32
+    ensures { λ r. ⌜ r ≡ shapeNumber shape ⌝ }
+{
+    match shape {
+        LfoShape::Sine => 0.0,
+        LfoShape::Triangle => 1.0,
+        LfoShape::Square => 2.0,
+        LfoShape::RampUp => 3.0,
+        LfoShape::RampDown => 4.0,
+        LfoShape::SampleAndHold => 5.0,
+        LfoShape::SampleAndGlide => 6.0,
+    }
+}
+
+fn pass_number(pass: Pass) -> f32
+    ensures { λ r. ⌜ r ≡ passNumber pass ⌝ }
+{
+    match pass {
+        Pass::Low => 0.0,
+        Pass::High => 1.0,
+    }
+}
+
+fn envelope_numbers(e: Envelope) -> Numbers
+    ensures { λ r. ⌜ r ≡ settingsNumbers (Shape.Envelope e) ⌝ }
+{
+    Numbers {
+        places: [
+            e.first,
+            e.second,
+            e.third,
+            e.sustain,
+            e.sustain_end,
+            e.attack_bend,
+            e.decay_bend,
+            e.release_bend,
+        ],
+        count: 8,
+    }
+}
+
+fn lfo_numbers(l: Lfo) -> Numbers
+    ensures { λ r. ⌜ r ≡ settingsNumbers (Shape.Lfo l) ⌝ }
+{
+    let shape = l.shape;
+    Numbers {
+        places: [
+            shape_number(shape),
+            l.turns,
+            l.slew,
+            flag(l.unipolar),
+            flag(l.synced),
+            0.0,
+            0.0,
+            0.0,
+        ],
+        count: 5,
+    }
+}
+
+fn filter_numbers(f: Filter) -> Numbers
+    ensures { λ r. ⌜ r ≡ settingsNumbers (Shape.Filter f) ⌝ }
+{
+    let pass = f.pass;
+    Numbers {
+        places: [
+            f.slope,
+            f.resonance,
+            f.span,
+            pass_number(pass),
+            0.0,
+            0.0,
+            0.0,
+            0.0,
+        ],
+        count: 4,
+    }
+}
+
+fn oscillator_numbers(o: Oscillator) -> Numbers
+    ensures { λ r. ⌜ r ≡ settingsNumbers (Shape.Oscillator o) ⌝ }
+{
+    Numbers {
+        places: [
+            flag(o.saw),
+            flag(o.pulse),
+            o.width,
+            o.sweep,
+            o.level,
+            0.0,
+            0.0,
+            0.0,
+        ],
+        count: 5,
+    }
+}
+
+fn one_number(x: f32) -> Numbers
+    ensures { λ r. ⌜ r ≡ stored (x ∷ []) ⌝ }
+{
+    Numbers {
+        places: [x, 0.0, 0.0, 0.0, 0.0, 0.0, 0.0, 0.0],
+        count: 1,
+    }
+}
+
+// The fields of a generator's settings, in the order of their declaration.
+pub fn settings_numbers(shape: Shape) -> Numbers
+    ensures { λ r. ⌜ r ≡ settingsNumbers shape ⌝ }
+{
+    match shape {
+        Shape::Envelope(e) => envelope_numbers(e),
+        Shape::Fade(f) => one_number(f.end),
+        Shape::Lfo(l) => lfo_numbers(l),
+        Shape::Filter(f) => filter_numbers(f),
+        Shape::Oscillator(o) => oscillator_numbers(o),
+        Shape::Noise(n) => one_number(n.level),
+    }
+}
+
+// ---- into lent arrays: the first places are written, the others stay
+// A count that is never above the most.
+fn least(count: usize, most: usize) -> usize
+    ensures { λ r. ⌜ (r ≡ leastOf count most) × (r ≤ most) ⌝ }
+{
+    if count < most {
+        return count;
+    }
+    most
+}
+
+pub fn marks_used(marks: Marks) -> usize
+    ensures { λ r. ⌜ (r ≡ marksUsed marks) × (r ≤ 6) ⌝ }
+{
+    least(marks.count, MAX_MARKS)
+}
+
+pub fn gates_used(gates: Gates) -> usize
+    ensures { λ r. ⌜ (r ≡ gatesUsed gates) × (r ≤ 4) ⌝ }
+{
+    least(gates.count, GATES_DRAWN)
+}
+
+pub fn settings_used(numbers: Numbers) -> usize
+    ensures { λ r. ⌜ (r ≡ settingsUsed numbers) × (r ≤ 8) ⌝ }
+{
+    least(numbers.count, MAX_SETTINGS)
+}
+
+pub fn lay_mark_positions(marks: Marks, out: &mut [f32; MAX_MARKS])
+    ensures { λ _. ⌜ now (out .exit) ≡ written (markPosition marks) (marksUsed marks) (now (out .entry)) ⌝ }
+{
+    let count = marks_used(marks);
+    let mut i: usize = 0;
+    while i < count {
+        out[i] = marks.places[i].at;
+        i += 1;
+    }
+}
+
+pub fn lay_mark_kinds(marks: Marks, out: &mut [u8; MAX_MARKS])
+    ensures { λ _. ⌜ now (out .exit) ≡ written (markKind marks) (marksUsed marks) (now (out .entry)) ⌝ }
+{
+    let count = marks_used(marks);
+    let mut i: usize = 0;
+    while i < count {
+        let mark = marks.places[i];
+        let kind = mark.kind;
+        out[i] = kind_number(kind);
+        i += 1;
+    }
+}
+
+pub fn lay_gate_starts(gates: Gates, out: &mut [f32; GATES_DRAWN])
+    ensures { λ _. ⌜ now (out .exit) ≡ written (gateStart gates) (gatesUsed gates) (now (out .entry)) ⌝ }
+{
+    let count = gates_used(gates);
+    let mut i: usize = 0;
+    while i < count {
+        out[i] = gates.places[i].start;
+        i += 1;
+    }
+}
+
+pub fn lay_gate_ends(gates: Gates, out: &mut [f32; GATES_DRAWN])
+    ensures { λ _. ⌜ now (out .exit) ≡ written (gateEnd gates) (gatesUsed gates) (now (out .entry)) ⌝ }
+{
+    let count = gates_used(gates);
+    let mut i: usize = 0;
+    while i < count {
+        out[i] = gates.places[i].end;
+        i += 1;
+    }
+}
+
+pub fn lay_settings(numbers: Numbers, out: &mut [f32; MAX_SETTINGS])
+    ensures { λ _. ⌜ now (out .exit) ≡ written (settingAt numbers) (settingsUsed numbers) (now (out .entry)) ⌝ }
+{
+    let count = settings_used(numbers);
+    let mut i: usize = 0;
+    while i < count {
+        out[i] = numbers.places[i];
+        i += 1;
+    }
+}

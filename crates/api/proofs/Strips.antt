@@ -1,0 +1,50 @@
+-- WHAT IS PROMISED OF A STRIP FOLLOWS FROM ITS EQUATIONS: it keeps its length, and each sample is the height at its own position, with all that is promised of one. Assumes nothing.
+use mathlib.Core.Path.{_≡_, refl, sym, ap, _∙_}
+use mathlib.Core.List.{List}
+use Prim.Native.Nat.{ℕ, _<_}
+use lib.Dec.{T}
+use lib.ListN.{length, getD}
+use lib.Ieee.{Float, nan}
+use borrow.Author.Tests.{eq-eqb}
+use Rattle.generator.specs.Generator.{generatorOf}
+use Rattle.generator.specs.Heights.{heightOf}
+use Rattle.strip.specs.Strip.{sampleOf, lengthFits, stripOf}
+use Rattle.strip.proofs.Samples.{sample-fits, strip-length, strip-at}
+use Rattle.codes.specs.declared.Code.{Code}
+use Rattle.codes.specs.declared.CodeRead.the-variants.{Known}
+use Rattle.block.specs.declared.Chosen.{Chosen}
+use Rattle.block.specs.declared.Chosen.the-variants.{Generator as AGenerator, Refused}
+use Rattle.block.specs.declared.StripAnswer.{StripAnswer}
+use Rattle.codes.specs.Codes.{codeOf}
+use Rattle.codes.specs.Bytes.{byteAt, blockLength}
+use Rattle.block.specs.Shapes.{shapeOf}
+use Rattle.block.specs.Refusals.{chosenBy, chosenOf, stripAnswer, stripAfter}
+use Rattle.block.proofs.EveryCode.{block-height}
+use Rattle.api.specs.Promises.{Sampled, StripAnswered}
+
+-- ---- a strip keeps its length
+after-length : (a : Chosen) (xs : List Float) → length (stripAfter a xs) ≡ length xs
+unfolding stripAfter
+after-length (AGenerator g) xs = strip-length (g .shape) xs
+after-length (Refused r) xs = refl
+
+-- ---- each sample
+-- a block of 242 bytes and a known code fill the strip with the heights of the code's shape
+accepted : (block : List ℕ) (code : ℕ) (xs : List Float) (c : Code) → codeOf code ≡ Known c → length block ≡ blockLength → stripAfter (chosenOf block code) xs ≡ stripOf (shapeOf c (byteAt block)) xs
+unfolding stripAfter chosenOf chosenBy generatorOf
+accepted block code xs c k l = simp (eq-eqb (length block) blockLength l, k)
+
+pub strip-answered : (block : List ℕ) (code : ℕ) (before after : List Float) (r : StripAnswer) → ((n : ℕ) → byteAt block n < 256)
+    → r ≡ stripAnswer (chosenOf block code) (length before) → after ≡ stripAfter (chosenOf block code) before → StripAnswered block code before after r
+strip-answered block code before after r b e a = record { equation = e; strip = a; size = size; given = λ c k l t i h. own c (a ∙ accepted block code before c k l) t i h }
+  where
+    size : length after ≡ length before
+    size = ap length a ∙ after-length (chosenOf block code) before
+
+    own : (c : Code) → after ≡ stripOf (shapeOf c (byteAt block)) before → T (lengthFits (length before)) → (i : ℕ) → i < length before → Sampled c block after i
+    own c f t i h =
+        record {
+          height = heightOf (shapeOf c (byteAt block)) (sampleOf (length after) i);
+          holds = ap (λ (xs : List Float). getD xs i nan) f ∙ strip-at (shapeOf c (byteAt block)) before t i h ∙ ap (λ (n : ℕ). heightOf (shapeOf c (byteAt block)) (sampleOf n i) .height) (sym size);
+          promised = block-height c (byteAt block) b (sampleOf (length after) i) (sample-fits (length after) i);
+        }

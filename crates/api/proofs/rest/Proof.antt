@@ -1,0 +1,25 @@
+-- `rest` is `restAnswer`: a return for the generator and one for the refusal. Assumes nothing.
+use borrow.Author.Needs.{needs}
+use mathlib.Core.Path.{sym}
+use Rattle.api.specs.Answers.{restAnswer}
+use Rattle.api.proofs.rest.Statement.{statement}
+use Rattle.api.proofs.rest.Tie as tie
+
+returns : tie.Need-returns
+unfolding restAnswer
+returns c = simp (sym (c .before .before .before .before .choose .ensures), c .before .before .chosen .given .1, c .rest .ensures)
+
+returns-2 : tie.Need-returns-2
+unfolding restAnswer
+returns-2 c = simp (sym (c .before .before .before .choose .ensures), c .before .chosen2 .given .1)
+
+pub rest-spec : {M : Type 1} → statement M
+rest-spec =
+    tie.close
+    (tie.spec
+    (λ c κs. search needs)
+    (λ c. search needs)
+    (λ c κs. search needs)
+    (λ c. search needs)
+    returns
+    returns-2)

@@ -1,0 +1,188 @@
+// What is offered to callers: a block and a code give settings, heights, strips, captions, marks, the rest level, the scale and the anchor, and a block its gates and bars; taps give their
+// height.
+ghost use mathlib.Core.Path.{_≡_};
+ghost use lib.ListN.{length};
+ghost use Rattle.block.specs.Refusals.{chosenOf};
+ghost use Rattle.block.specs.Promises.{HeightAnswered};
+ghost use Rattle.api.specs.Answers.{settingsAnswer, marksAnswer, restAnswer, scaleAnswer, anchoredAnswer, captionsAnswer, captionsAfter, gatesAnswer, barsAnswer};
+ghost use Rattle.api.specs.Promises.{StripAnswered, TapsAnswered};
+use block::BLOCK;
+use block::Chosen;
+use block::HeightAnswer;
+use block::StripAnswer;
+use block::choose;
+use captions::Captioned;
+use curve::Height;
+use generator::Gates;
+use generator::Marks;
+use generator::Scale;
+use generator::Shape;
+use generator::arpeggiator_gates;
+use generator::no_marks;
+use refusals::Refusal;
+use taps::Taps;
+
+// An answer that holds arrays is a record beside them, since an enum holds none.
+pub enum Answer {
+    Accepted,
+    Refused(Refusal),
+}
+
+pub enum SettingsAnswer {
+    Settings(Shape),
+    Refused(Refusal),
+}
+
+pub struct MarksAnswer {
+    pub answer: Answer,
+    pub marks: Marks,
+}
+
+pub enum RestAnswer {
+    Rest(f32),
+    Refused(Refusal),
+}
+
+pub enum ScaleAnswer {
+    Scale(Scale),
+    Refused(Refusal),
+}
+
+pub enum AnchoredAnswer {
+    Anchored(bool),
+    Refused(Refusal),
+}
+
+pub struct GatesAnswer {
+    pub answer: Answer,
+    pub gates: Gates,
+}
+
+// The byte that the gates read.
+const GATES_BYTE: usize = 160;
+
+// ---- of a block and a code
+pub fn settings(block: &[u8], code: u8) -> SettingsAnswer
+    ensures { λ r. ⌜ r ≡ settingsAnswer (chosenOf (now (block .entry)) code) ⌝ }
+{
+    let chosen = choose(block, code);
+    match chosen {
+        Chosen::Generator(g) => {
+            let shape = g.shape;
+            SettingsAnswer::Settings(shape)
+        }
+        Chosen::Refused(r) => SettingsAnswer::Refused(r),
+    }
+}
+
+pub fn height(block: &[u8], code: u8, t: f32) -> HeightAnswer
+    ensures { λ r. ⌜ HeightAnswered (now (block .entry)) code t r ⌝ }
+{
+    block::height(block, code, t)
+}
+
+pub fn marks(block: &[u8], code: u8) -> MarksAnswer
+    ensures { λ r. ⌜ r ≡ marksAnswer (chosenOf (now (block .entry)) code) ⌝ }
+{
+    let chosen = choose(block, code);
+    match chosen {
+        Chosen::Generator(g) => MarksAnswer {
+            answer: Answer::Accepted,
+            marks: g.marks(),
+        },
+        Chosen::Refused(r) => MarksAnswer {
+            answer: Answer::Refused(r),
+            marks: no_marks(),
+        },
+    }
+}
+
+pub fn rest(block: &[u8], code: u8) -> RestAnswer
+    ensures { λ r. ⌜ r ≡ restAnswer (chosenOf (now (block .entry)) code) ⌝ }
+{
+    let chosen = choose(block, code);
+    match chosen {
+        Chosen::Generator(g) => RestAnswer::Rest(g.rest()),
+        Chosen::Refused(r) => RestAnswer::Refused(r),
+    }
+}
+
+pub fn scale(block: &[u8], code: u8) -> ScaleAnswer
+    ensures { λ r. ⌜ r ≡ scaleAnswer (chosenOf (now (block .entry)) code) ⌝ }
+{
+    let chosen = choose(block, code);
+    match chosen {
+        Chosen::Generator(g) => ScaleAnswer::Scale(g.scale()),
+        Chosen::Refused(r) => ScaleAnswer::Refused(r),
+    }
+}
+
+pub fn anchored(block: &[u8], code: u8) -> AnchoredAnswer
+    ensures { λ r. ⌜ r ≡ anchoredAnswer (chosenOf (now (block .entry)) code) ⌝ }
+{
+    let chosen = choose(block, code);
+    match chosen {
+        Chosen::Generator(g) => AnchoredAnswer::Anchored(g.anchored()),
+        Chosen::Refused(r) => AnchoredAnswer::Refused(r),
+    }
+}
+
+// Fills the strip with heights, from the left edge to the right. What is refused leaves it as it was.
+pub fn strip(block: &[u8], code: u8, out: &mut [f32]) -> StripAnswer
+    ensures { λ r. ⌜ StripAnswered (now (block .entry)) code (now (out .entry)) (now (out .exit)) r ⌝ }
+{
+    block::strip(block, code, out)
+}
+
+// Fills the slice with the caption of each sample. What is refused leaves it as it was.
+pub fn captions(block: &[u8], code: u8, out: &mut [u8]) -> Answer
+    ensures { λ r. ⌜ (r ≡ captionsAnswer (chosenOf (now (block .entry)) code) (length (now (out .entry)))) × (now (out .exit) ≡ captionsAfter (chosenOf (now (block .entry)) code) (now (out .entry))) ⌝ }
+{
+    let chosen = choose(block, code);
+    match chosen {
+        Chosen::Generator(g) => {
+            let captioned = captions::captions(g, out);
+            match captioned {
+                Captioned::Written => Answer::Accepted,
+                Captioned::WrongLength => Answer::Refused(Refusal::Strip),
+            }
+        }
+        Chosen::Refused(r) => Answer::Refused(r),
+    }
+}
+
+// ---- of a block alone
+pub fn gates(block: &[u8]) -> GatesAnswer
+    ensures { λ r. ⌜ r ≡ gatesAnswer (now (block .entry)) ⌝ }
+{
+    if block.len() != BLOCK {
+        return GatesAnswer {
+            answer: Answer::Refused(Refusal::Block),
+            gates: arpeggiator_gates(0),
+        };
+    }
+    GatesAnswer {
+        answer: Answer::Accepted,
+        gates: arpeggiator_gates(block[GATES_BYTE]),
+    }
+}
+
+// The gates, joined where they touch.
+pub fn bars(block: &[u8]) -> GatesAnswer
+    ensures { λ r. ⌜ r ≡ barsAnswer (now (block .entry)) ⌝ }
+{
+    let found = gates(block);
+    let answer = found.answer;
+    let open = found.gates;
+    GatesAnswer {
+        answer,
+        gates: bars::bars(open),
+    }
+}
+
+// ---- of taps, which are never refused; their marks, rest, scale and anchor are those of crate taps
+pub fn taps_height(train: Taps, t: f32) -> Height
+    ensures { λ r. ⌜ TapsAnswered train t r ⌝ }
+{
+    taps::taps_height(train, t)
+}

@@ -1,0 +1,29 @@
+-- `oscillator_at` is `oscillatorAt`. Assumes nothing.
+use Rattle.block.specs.Shapes.{oscillatorAt}
+use borrow.Author.Needs.{needs}
+use Rattle.block.proofs.oscillator_at.Statement.{statement}
+use Rattle.block.proofs.oscillator_at.Tie as tie
+
+returns : tie.Need-returns
+unfolding oscillatorAt
+returns c = simp (c .before .before .before .before .before .enum-told .given .1, c .oscillator-one-from .ensures)
+
+returns-2 : tie.Need-returns-2
+unfolding oscillatorAt
+returns-2 c = simp (c .before .before .enum-told2 .given .1, c .oscillator-two-from .ensures)
+
+pub oscillator-at-spec : {M : Type 1} → statement M
+oscillator-at-spec =
+    tie.close
+    (tie.spec
+    (λ c. search needs)
+    (λ c. search needs)
+    (λ c. search needs)
+    (λ c. search needs)
+    (λ c. search needs)
+    (λ c κs. search needs)
+    (λ c. search needs)
+    (λ c. search needs)
+    (λ c κs. search needs)
+    returns
+    returns-2)

@@ -1,0 +1,37 @@
+-- THE SHAPE OF A CODE: docs/SPECIFICATION.md, "The block and its codes". A reading gives the byte of each number. Definitions only.
+use mathlib.Core.Bool.{Bool, true, false}
+use Prim.Native.Nat.{ℕ, _+_}
+use Rattle.settings.specs.declared.Envelope.{Envelope}
+use Rattle.settings.specs.declared.Lfo.{Lfo}
+use Rattle.settings.specs.declared.Oscillator.{Oscillator}
+use Rattle.settings.specs.Settings.{envelopeOf, lfoOf, fadeOf, lowPassOf, highPassOf, oscillatorOneOf, oscillatorTwoOf, noiseOf}
+use Rattle.generator.specs.declared.Shape.{Shape}
+use Rattle.generator.specs.declared.Shape.the-variants.{Envelope as AnEnvelope, Fade as AFade, Lfo as AnLfo, Filter as AFilter, Oscillator as AnOscillator, Noise as ANoise}
+use Rattle.codes.specs.declared.OscillatorId.{OscillatorId}
+use Rattle.codes.specs.declared.OscillatorId.the-variants.{One, Two}
+use Rattle.codes.specs.declared.Code.{Code}
+use Rattle.codes.specs.declared.Code.the-variants.{Envelope as TheEnvelope, Lfo as TheLfo, LfoUnipolar, Fade, LowPass, HighPass, Oscillator as TheOscillator, Noise}
+use Rattle.codes.specs.Bytes.{fadeByte, lfoFirst, envelopeFirst}
+
+-- The envelope of the bytes from n on: four times and levels, then, past one byte, their four curves.
+unfoldable pub envelopeAt : (ℕ → ℕ) → ℕ → Envelope
+envelopeAt b n = envelopeOf (b n) (b (n + 1)) (b (n + 2)) (b (n + 3)) (b (n + 5)) (b (n + 6)) (b (n + 7)) (b (n + 8))
+
+-- The LFO of the bytes from n on: its shape is the first, its slew four further, its key sync the next.
+unfoldable pub lfoAt : (ℕ → ℕ) → ℕ → Bool → Lfo
+lfoAt b n unipolar = lfoOf (b n) (b (n + 4)) (b (n + 1)) unipolar
+
+unfoldable pub oscillatorAt : (ℕ → ℕ) → OscillatorId → Oscillator
+oscillatorAt b One = oscillatorOneOf (b 16) (b 18) (b 19) (b 25)
+oscillatorAt b Two = oscillatorTwoOf (b 26)
+
+-- The shape of a code, from a reading.
+unfoldable pub shapeOf : Code → (ℕ → ℕ) → Shape
+shapeOf (TheEnvelope id) b = AnEnvelope (envelopeAt b (envelopeFirst id))
+shapeOf (TheLfo id) b = AnLfo (lfoAt b (lfoFirst id) false)
+shapeOf (LfoUnipolar id) b = AnLfo (lfoAt b (lfoFirst id) true)
+shapeOf (Fade id) b = AFade (fadeOf (b (fadeByte id)))
+shapeOf LowPass b = AFilter (lowPassOf (b 41) (b 51))
+shapeOf HighPass b = AFilter highPassOf
+shapeOf (TheOscillator id) b = AnOscillator (oscillatorAt b id)
+shapeOf Noise b = ANoise (noiseOf (b 33))

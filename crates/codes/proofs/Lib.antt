@@ -1,0 +1,2 @@
+-- The codes' numbers.
+pub mod Numbers

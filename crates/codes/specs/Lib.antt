@@ -1,0 +1,3 @@
+-- The codes, and the bytes that each reads.
+pub mod Codes
+pub mod Bytes

@@ -1,0 +1,247 @@
+// The codes of a program's generators, as the reference's builders take them, and where in a block each finds its bytes.
+ghost use mathlib.Core.Path.{_≡_};
+ghost use mathlib.Core.List.{[], _∷_};
+ghost use Prim.Native.Nat.{_≤_};
+ghost use lib.ListN.{length, take};
+ghost use Rattle.codes.specs.Codes.{envelopeNumber, lfoNumber, oscillatorNumber, codeNumber, codeOf};
+ghost use Rattle.codes.specs.Bytes.{envelopeFirst, lfoFirst, fadeByte, envelopeBytes, lfoBytes, bytesOf};
+
+pub enum EnvelopeId {
+    Vca,
+    Vcf,
+    Mod,
+}
+
+pub enum LfoId {
+    One,
+    Two,
+}
+
+pub enum OscillatorId {
+    One,
+    Two,
+}
+
+pub enum Code {
+    Envelope(EnvelopeId),
+    Lfo(LfoId),
+    LfoUnipolar(LfoId),
+    Fade(LfoId),
+    LowPass,
+    HighPass,
+    Oscillator(OscillatorId),
+    Noise,
+}
+
+pub enum CodeRead {
+    Known(Code),
+    Above,
+}
+
+// How many codes there are, from 0 up.
+pub const CODES: u8 = 14;
+
+// ---- the bytes that have a place of their own
+pub const SOURCE: usize = 16;
+
+pub const PULSE: usize = 18;
+
+pub const SAW: usize = 19;
+
+pub const DEPTH: usize = 25;
+
+pub const OSCILLATOR_TWO_LEVEL: usize = 26;
+
+pub const NOISE_LEVEL: usize = 33;
+
+pub const RESONANCE: usize = 41;
+
+pub const POLE: usize = 51;
+
+pub const GATE_TIME: usize = 160;
+
+// The bytes that a code reads: the first `count` of eight.
+pub struct Bytes {
+    pub at: [u8; 8],
+    pub count: usize,
+}
+
+// ---- codes
+pub fn code_from(byte: u8) -> CodeRead
+    ensures { λ r. ⌜ r ≡ codeOf byte ⌝ }
+{
+    match byte {
+        0 => CodeRead::Known(Code::Envelope(EnvelopeId::Vca)),
+        1 => CodeRead::Known(Code::Envelope(EnvelopeId::Vcf)),
+        2 => CodeRead::Known(Code::Envelope(EnvelopeId::Mod)),
+        3 => CodeRead::Known(Code::Lfo(LfoId::One)),
+        4 => CodeRead::Known(Code::Lfo(LfoId::Two)),
+        5 => CodeRead::Known(Code::LfoUnipolar(LfoId::One)),
+        6 => CodeRead::Known(Code::LfoUnipolar(LfoId::Two)),
+        7 => CodeRead::Known(Code::Fade(LfoId::One)),
+        8 => CodeRead::Known(Code::Fade(LfoId::Two)),
+        9 => CodeRead::Known(Code::LowPass),
+        10 => CodeRead::Known(Code::HighPass),
+        11 => CodeRead::Known(Code::Oscillator(OscillatorId::One)),
+        12 => CodeRead::Known(Code::Oscillator(OscillatorId::Two)),
+        13 => CodeRead::Known(Code::Noise),
+        14..=255 => CodeRead::Above,
+    }
+}
+
+// The code of a wider number: what is no byte is above all codes.
+pub fn code_read(number: u32) -> CodeRead
+    ensures { λ r. ⌜ r ≡ codeOf number ⌝ }
+{
+    if 255 < number {
+        return CodeRead::Above;
+    }
+    code_from(number as u8)
+}
+
+fn envelope_number(id: EnvelopeId) -> u8
+    ensures { λ r. ⌜ r ≡ envelopeNumber id ⌝ }
+{
+    match id {
+        EnvelopeId::Vca => 0,
+        EnvelopeId::Vcf => 1,
+        EnvelopeId::Mod => 2,
+    }
+}
+
+fn lfo_number(id: LfoId) -> u8
+    ensures { λ r. ⌜ (r ≡ lfoNumber id) × (r ≤ 1) ⌝ }
+{
+    match id {
+        LfoId::One => 0,
+        LfoId::Two => 1,
+    }
+}
+
+fn oscillator_number(id: OscillatorId) -> u8
+    ensures { λ r. ⌜ (r ≡ oscillatorNumber id) × (r ≤ 1) ⌝ }
+{
+    match id {
+        OscillatorId::One => 0,
+        OscillatorId::Two => 1,
+    }
+}
+
+pub fn code_number(code: Code) -> u8
+    ensures { λ r. ⌜ r ≡ codeNumber code ⌝ }
+{
+    match code {
+        Code::Envelope(id) => envelope_number(id),
+        Code::Lfo(id) => 3 + lfo_number(id),
+        Code::LfoUnipolar(id) => 5 + lfo_number(id),
+        Code::Fade(id) => 7 + lfo_number(id),
+        Code::LowPass => 9,
+        Code::HighPass => 10,
+        Code::Oscillator(id) => 11 + oscillator_number(id),
+        Code::Noise => 13,
+    }
+}
+
+// ---- where a generator's bytes begin
+pub fn envelope_first(id: EnvelopeId) -> usize
+    ensures { λ r. ⌜ (r ≡ envelopeFirst id) × (r ≤ 71) ⌝ }
+{
+    match id {
+        EnvelopeId::Vca => 53,
+        EnvelopeId::Vcf => 62,
+        EnvelopeId::Mod => 71,
+    }
+}
+
+pub fn lfo_first(id: LfoId) -> usize
+    ensures { λ r. ⌜ (r ≡ lfoFirst id) × (r ≤ 9) ⌝ }
+{
+    match id {
+        LfoId::One => 2,
+        LfoId::Two => 9,
+    }
+}
+
+pub fn fade_byte(id: LfoId) -> usize
+    ensures { λ r. ⌜ (r ≡ fadeByte id) × (r ≤ 8) ⌝ }
+{
+    match id {
+        LfoId::One => 1,
+        LfoId::Two => 8,
+    }
+}
+
+// ---- the bytes that a code reads
+fn envelope_bytes(first: usize) -> Bytes
+    requires { ⌜ first ≤ 71 ⌝ }
+    ensures { λ r. ⌜ (r .count ≤ length (r .at)) × (take (r .count) (r .at) ≡ envelopeBytes first) ⌝ }
+{
+    let n = first as u8;
+    Bytes {
+        at: [n, n + 1, n + 2, n + 3, n + 5, n + 6, n + 7, n + 8],
+        count: 8,
+    }
+}
+
+fn lfo_bytes(first: usize) -> Bytes
+    requires { ⌜ first ≤ 9 ⌝ }
+    ensures { λ r. ⌜ (r .count ≤ length (r .at)) × (take (r .count) (r .at) ≡ lfoBytes first) ⌝ }
+{
+    let n = first as u8;
+    Bytes {
+        at: [n, n + 4, n + 1, 0, 0, 0, 0, 0],
+        count: 3,
+    }
+}
+
+fn one_byte(n: usize) -> Bytes
+    requires { ⌜ n ≤ 33 ⌝ }
+    ensures { λ r. ⌜ (r .count ≤ length (r .at)) × (take (r .count) (r .at) ≡ n ∷ []) ⌝ }
+{
+    Bytes {
+        at: [n as u8, 0, 0, 0, 0, 0, 0, 0],
+        count: 1,
+    }
+}
+
+fn oscillator_bytes(id: OscillatorId) -> Bytes
+    ensures { λ r. ⌜ (r .count ≤ length (r .at)) × (take (r .count) (r .at) ≡ bytesOf (Code.Oscillator id)) ⌝ }
+{
+    match id {
+        OscillatorId::One => Bytes {
+            at: [
+                SOURCE as u8,
+                PULSE as u8,
+                SAW as u8,
+                DEPTH as u8,
+                0,
+                0,
+                0,
+                0,
+            ],
+            count: 4,
+        },
+        OscillatorId::Two => one_byte(OSCILLATOR_TWO_LEVEL),
+    }
+}
+
+pub fn bytes_of(code: Code) -> Bytes
+    ensures { λ r. ⌜ (r .count ≤ length (r .at)) × (take (r .count) (r .at) ≡ bytesOf code) ⌝ }
+{
+    match code {
+        Code::Envelope(id) => envelope_bytes(envelope_first(id)),
+        Code::Lfo(id) => lfo_bytes(lfo_first(id)),
+        Code::LfoUnipolar(id) => lfo_bytes(lfo_first(id)),
+        Code::Fade(id) => one_byte(fade_byte(id)),
+        Code::LowPass => Bytes {
+            at: [RESONANCE as u8, POLE as u8, 0, 0, 0, 0, 0, 0],
+            count: 2,
+        },
+        Code::HighPass => Bytes {
+            at: [0; 8],
+            count: 0,
+        },
+        Code::Oscillator(id) => oscillator_bytes(id),
+        Code::Noise => one_byte(NOISE_LEVEL),
+    }
+}

@@ -1,0 +1,30 @@
+// Prints what differs between two programs: both blocks are on standard input, the old one first. Any other number of bytes prints one line, `refused` and the refusal's number.
+use comparison::put_differences;
+use libc::STDIN_FILENO;
+use libc::STDOUT_FILENO;
+use refusals::Refusal;
+use refusals::refusal_number;
+
+fn print_first(text: &[u8], n: usize) {
+    if n < text.len() {
+        io::write_all(STDOUT_FILENO, &text[..n]);
+    }
+}
+
+fn print_differences(both: &[u8]) {
+    if both.len() != 484 {
+        io::write_all(STDOUT_FILENO, b"refused ");
+        io::print_decimal(STDOUT_FILENO, refusal_number(Refusal::Block) as u64);
+        io::write_all(STDOUT_FILENO, b"\n");
+        return;
+    }
+    let mut text = io::buffer();
+    let n = put_differences(&mut text, 0, &both[..242], &both[242..]);
+    print_first(&text, n);
+}
+
+fn main() {
+    let mut both = [0u8; 485];
+    let got = io::read_full(STDIN_FILENO, &mut both);
+    print_differences(&both[..got]);
+}

@@ -1,0 +1,63 @@
+-- WHAT DIFFERS BETWEEN TWO PROGRAMS, AS TEXT: docs/SPECIFICATION.md, "What differs". A reading gives the byte of each number: a is the old, b the new. Definitions only.
+use mathlib.Core.Bool.{cond}
+use mathlib.Core.List.{List, [], _∷_, _++_}
+use Prim.Native.Nat.{ℕ, zero, suc, _+_}
+use lib.Dec.{eqb}
+use lib.ListN.{length}
+use Rattle.text.specs.Text.{ascii}
+use Rattle.text.specs.Spelled.{decimalOf}
+use Rattle.codes.specs.declared.Code.{Code}
+use Rattle.codes.specs.declared.CodeRead.{CodeRead}
+use Rattle.codes.specs.declared.CodeRead.the-variants.{Known, Above}
+use Rattle.codes.specs.Codes.{codeOf}
+use Rattle.codes.specs.Bytes.{bytesOf, byteAt, gatesByte, blockLength}
+use Rattle.block.specs.Shapes.{shapeOf}
+use Rattle.rows.specs.Rows.{ninePlaces}
+use Rattle.labels.specs.Names.{titleOf}
+use Rattle.comparison.specs.Changes.{sameBytes, changesText}
+use Rattle.comparison.specs.declared.Largest.{Largest as ALargest}
+use Rattle.comparison.specs.Largest.{samples, placeOf, largestOf}
+
+-- ---- a generator
+-- How far the old curve and the new are apart, and where.
+unfoldable pub largestText : ALargest → List ℕ
+largestText l = ascii "different  largest difference " ++ ninePlaces (l .size) ++ ascii " at " ++ ninePlaces (placeOf (l .index)) ++ ascii "\n"
+
+-- Its name, and whether all bytes that it reads are the same; if not, how far apart the curves are, and a line for each byte that differs.
+unfoldable pub generatorText : Code → (ℕ → ℕ) → (ℕ → ℕ) → List ℕ
+generatorText c a b =
+    titleOf c ++ cond (sameBytes (bytesOf c) a b) (ascii "same\n") (largestText (largestOf (shapeOf c a) (shapeOf c b) samples) ++ changesText (bytesOf c) a b)
+
+unfoldable pub codeText : CodeRead → (ℕ → ℕ) → (ℕ → ℕ) → List ℕ
+codeText (Known c) a b = generatorText c a b
+codeText Above a b = []
+
+-- The generators of the first k codes.
+unfoldable pub codesText : ℕ → (ℕ → ℕ) → (ℕ → ℕ) → List ℕ
+codesText zero a b = []
+codesText (suc k) a b = codesText k a b ++ codeText (codeOf k) a b
+
+-- ---- the gates, which have no height
+unfoldable pub gateText : (ℕ → ℕ) → (ℕ → ℕ) → List ℕ
+gateText a b = ascii "Arpeggio gate    " ++ cond (sameBytes (gatesByte ∷ []) a b) (ascii "same\n") (ascii "different\n" ++ changesText (gatesByte ∷ []) a b)
+
+-- ---- how many differ: 1 for each that does
+unfoldable pub codeCount : CodeRead → (ℕ → ℕ) → (ℕ → ℕ) → ℕ
+codeCount (Known c) a b = cond (sameBytes (bytesOf c) a b) 0 1
+codeCount Above a b = 0
+
+unfoldable pub codesCount : ℕ → (ℕ → ℕ) → (ℕ → ℕ) → ℕ
+codesCount zero a b = 0
+codesCount (suc k) a b = codesCount k a b + codeCount (codeOf k) a b
+
+unfoldable pub gateCount : (ℕ → ℕ) → (ℕ → ℕ) → ℕ
+gateCount a b = cond (sameBytes (gatesByte ∷ []) a b) 0 1
+
+-- ---- all of it
+-- The 14 generators, the gates, and how many of the 15 differ.
+unfoldable pub programsText : (ℕ → ℕ) → (ℕ → ℕ) → List ℕ
+programsText a b = codesText 14 a b ++ gateText a b ++ decimalOf (codesCount 14 a b + gateCount a b) ++ ascii " of 15 differ\n"
+
+-- Where a block has another length there is no text.
+unfoldable pub differencesText : List ℕ → List ℕ → List ℕ
+differencesText old new = cond (eqb (length old) blockLength) (cond (eqb (length new) blockLength) (programsText (byteAt old) (byteAt new)) []) []

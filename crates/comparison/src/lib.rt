@@ -1,0 +1,223 @@
+// What differs between two programs: a line for each generator and for the arpeggio's gates, with a line for each of their bytes that is not the same.
+ghost use mathlib.Core.Path.{_≡_};
+ghost use Prim.Native.Nat.{_≤_};
+ghost use lib.ListN.{length};
+ghost use Rattle.text.specs.Text.{Puts};
+ghost use Rattle.generator.specs.Generator.{generatorOf};
+ghost use Rattle.block.specs.declared.Chosen.the-variants.{Generator as AGenerator};
+ghost use Rattle.codes.specs.Codes.{codeOf};
+ghost use Rattle.codes.specs.Bytes.{byteAt, blockLength};
+ghost use Rattle.block.specs.Shapes.{shapeOf};
+ghost use Rattle.comparison.specs.Largest.{differenceAt, largerOf, largestOf};
+ghost use Rattle.comparison.specs.Differences.{largestText, generatorText, codeText, codesText, gateText, codeCount, codesCount, gateCount, differencesText};
+use crate::bytes::put_changes;
+use crate::bytes::put_code_changes;
+use crate::bytes::same;
+use crate::bytes::same_bytes;
+use block::BLOCK;
+use block::Chosen;
+use block::choose;
+use codes::Code;
+use codes::CodeRead;
+use codes::code_from;
+use generator::Generator;
+use labels::put_title;
+use math::abs;
+use rows::put_nine_places;
+use strip::sample_position;
+use text::put;
+use text::put_decimal;
+
+// The number of the last sample at which two curves are held against each other.
+const LAST: u16 = 1024;
+
+// How many codes there are.
+const CODES: u8 = 14;
+
+// How far two curves are apart where they are farthest, and the number of the first such sample.
+pub struct Largest {
+    pub size: f32,
+    pub index: u16,
+}
+
+// ---- the largest difference
+fn difference(g: Generator, h: Generator, i: u16) -> f32
+    ensures { λ r. ⌜ r ≡ differenceAt (g .shape) (h .shape) i ⌝ }
+{
+    let t = sample_position(i, LAST);
+    let a = g.at(t);
+    let b = h.at(t);
+    abs(a.height - b.height)
+}
+
+fn larger(found: Largest, size: f32, i: u16) -> Largest
+    ensures { λ r. ⌜ r ≡ largerOf found size i ⌝ }
+{
+    if found.size < size {
+        return Largest { size, index: i };
+    }
+    found
+}
+
+fn find_largest(g: Generator, h: Generator) -> Largest
+    ensures { λ r. ⌜ r ≡ largestOf (g .shape) (h .shape) 1025 ⌝ }
+{
+    let mut found = Largest {
+        size: 0.0,
+        index: 0,
+    };
+    let mut i: u16 = 0;
+    while i < 1025 {
+        let size = difference(g, h, i);
+        found = larger(found, size, i);
+        i += 1;
+    }
+    found
+}
+
+// ---- the lines of a generator
+fn put_largest(out: &mut [u8], at: usize, largest: Largest) -> usize
+    ensures { λ r. ⌜ Puts (now (out .entry)) at (largestText largest) (now (out .exit)) r ⌝ }
+{
+    let mut next = put(out, at, b"different  largest difference ");
+    next = put_nine_places(out, next, largest.size);
+    next = put(out, next, b" at ");
+    next = put_nine_places(out, next, sample_position(largest.index, LAST));
+    put(out, next, b"\n")
+}
+
+fn put_known(
+    out: &mut [u8],
+    at: usize,
+    old: &[u8],
+    new: &[u8],
+    code: Code,
+    g: Generator,
+    h: Generator,
+) -> usize
+    requires { ⌜ (g ≡ generatorOf (shapeOf code (byteAt (now old)))) × (h ≡ generatorOf (shapeOf code (byteAt (now new)))) ⌝ }
+    ensures { λ r. ⌜ Puts (now (out .entry)) at (generatorText code (byteAt (now (old .entry))) (byteAt (now (new .entry)))) (now (out .exit)) r ⌝ }
+{
+    let titled = put_title(out, at, code);
+    if same(old, new, code) {
+        return put(out, titled, b"same\n");
+    }
+    let next = put_largest(out, titled, find_largest(g, h));
+    put_code_changes(out, next, old, new, code)
+}
+
+fn put_chosen(
+    out: &mut [u8],
+    at: usize,
+    old: &[u8],
+    new: &[u8],
+    code: Code,
+    first: Chosen,
+    second: Chosen,
+) -> usize
+    requires { ⌜ (first ≡ AGenerator (generatorOf (shapeOf code (byteAt (now old))))) × (second ≡ AGenerator (generatorOf (shapeOf code (byteAt (now new))))) ⌝ }
+    ensures { λ r. ⌜ Puts (now (out .entry)) at (generatorText code (byteAt (now (old .entry))) (byteAt (now (new .entry)))) (now (out .exit)) r ⌝ }
+{
+    match first {
+        Chosen::Generator(g) => match second {
+            Chosen::Generator(h) => put_known(out, at, old, new, code, g, h),
+            Chosen::Refused(_) => at,
+        },
+        Chosen::Refused(_) => at,
+    }
+}
+
+// The lines of the generator of a code's number.
+fn put_code(out: &mut [u8], at: usize, old: &[u8], new: &[u8], number: u8) -> usize
+    requires { ⌜ (length (now old) ≡ blockLength) × (length (now new) ≡ blockLength) ⌝ }
+    ensures { λ r. ⌜ Puts (now (out .entry)) at (codeText (codeOf number) (byteAt (now (old .entry))) (byteAt (now (new .entry)))) (now (out .exit)) r ⌝ }
+{
+    let read = code_from(number);
+    match read {
+        CodeRead::Known(code) => {
+            let first = choose(old, number);
+            let second = choose(new, number);
+            put_chosen(out, at, old, new, code, first, second)
+        }
+        CodeRead::Above => at,
+    }
+}
+
+fn put_codes(out: &mut [u8], at: usize, old: &[u8], new: &[u8]) -> usize
+    requires { ⌜ (length (now old) ≡ blockLength) × (length (now new) ≡ blockLength) ⌝ }
+    ensures { λ r. ⌜ Puts (now (out .entry)) at (codesText 14 (byteAt (now (old .entry))) (byteAt (now (new .entry)))) (now (out .exit)) r ⌝ }
+{
+    let mut next = at;
+    let mut number: u8 = 0;
+    while number < CODES {
+        next = put_code(out, next, old, new, number);
+        number += 1;
+    }
+    next
+}
+
+// ---- the gates
+fn put_gate(out: &mut [u8], at: usize, old: &[u8], new: &[u8]) -> usize
+    ensures { λ r. ⌜ Puts (now (out .entry)) at (gateText (byteAt (now (old .entry))) (byteAt (now (new .entry)))) (now (out .exit)) r ⌝ }
+{
+    let titled = put(out, at, b"Arpeggio gate    ");
+    if same_bytes(old, new, &[160]) {
+        return put(out, titled, b"same\n");
+    }
+    let next = put(out, titled, b"different\n");
+    put_changes(out, next, old, new, &[160])
+}
+
+// ---- how many differ
+fn count_code(old: &[u8], new: &[u8], number: u8) -> u64
+    ensures { λ r. ⌜ (r ≡ codeCount (codeOf number) (byteAt (now (old .entry))) (byteAt (now (new .entry)))) × (r ≤ 1) ⌝ }
+{
+    let read = code_from(number);
+    match read {
+        CodeRead::Known(code) => {
+            if same(old, new, code) {
+                return 0;
+            }
+            1
+        }
+        CodeRead::Above => 0,
+    }
+}
+
+fn count_codes(old: &[u8], new: &[u8]) -> u64
+    ensures { λ r. ⌜ (r ≡ codesCount 14 (byteAt (now (old .entry))) (byteAt (now (new .entry)))) × (r ≤ 14) ⌝ }
+{
+    let mut count: u64 = 0;
+    let mut number: u8 = 0;
+    while number < CODES {
+        count += count_code(old, new, number);
+        number += 1;
+    }
+    count
+}
+
+fn count_gate(old: &[u8], new: &[u8]) -> u64
+    ensures { λ r. ⌜ (r ≡ gateCount (byteAt (now (old .entry))) (byteAt (now (new .entry)))) × (r ≤ 1) ⌝ }
+{
+    if same_bytes(old, new, &[160]) {
+        return 0;
+    }
+    1
+}
+
+// ---- all of it
+// The text of two blocks; where one has another length, nothing.
+pub fn put_differences(out: &mut [u8], at: usize, old: &[u8], new: &[u8]) -> usize
+    ensures { λ r. ⌜ Puts (now (out .entry)) at (differencesText (now (old .entry)) (now (new .entry))) (now (out .exit)) r ⌝ }
+{
+    if old.len() != BLOCK {
+        return at;
+    }
+    if new.len() != BLOCK {
+        return at;
+    }
+    let mut next = put_codes(out, at, old, new);
+    next = put_gate(out, next, old, new);
+    next = put_decimal(out, next, count_codes(old, new) + count_gate(old, new));
+    put(out, next, b" of 15 differ\n")
+}

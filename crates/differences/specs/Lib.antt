@@ -1,3 +1,0 @@
--- What differs between two programs.
-pub mod Largest
-pub mod Differences

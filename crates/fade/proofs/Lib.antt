@@ -1,0 +1,2 @@
+-- How near the fade is to its exact height.
+pub mod Distance

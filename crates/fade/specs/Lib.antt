@@ -1,0 +1,3 @@
+-- The fade: its formula, and its exact height.
+pub mod Formula
+pub mod Exact

@@ -1,0 +1,30 @@
+-- THE NAMES OF GENERATORS AND OF THEIR BYTES: docs/SPECIFICATION.md, "What differs". Definitions only.
+use mathlib.Core.Bool.{cond}
+use mathlib.Core.List.{List, [], _∷_}
+use Prim.Native.Nat.{ℕ, _-_, _%_}
+use lib.Dec.{ltb}
+use Rattle.text.specs.Text.{ascii}
+use Rattle.text.specs.Words.{wordOf, placeOf}
+use Rattle.codes.specs.declared.Code.{Code}
+use Rattle.codes.specs.Codes.{codeNumber}
+
+-- A generator's name by its code's number, with spaces up to column 17.
+unfoldable pub titleOf : Code → List ℕ
+titleOf c = wordOf (ascii "VCA envelope     |VCF envelope     |Mod envelope     |LFO 1            |LFO 2            |LFO 1 unipolar   |LFO 2 unipolar   |LFO 1 fade       |LFO 2 fade       |Low-pass filter  |High-pass filter |Oscillator 1     |Oscillator 2     |Noise            ") (codeNumber c)
+
+-- ---- the names of bytes
+-- Of an LFO's, by their place from the LFO's first. No curve reads its rate.
+abbrev pub lfoName : ℕ → List ℕ
+lfoName k = wordOf (ascii "rate|fade time|shape|key sync|slew rate") k
+
+-- Of an envelope's, by their place from the envelope's first. No curve reads its trigger mode.
+abbrev pub envelopeName : ℕ → List ℕ
+envelopeName k = wordOf (ascii "attack|decay|sustain|release|trigger mode|attack curve|decay curve|sustain curve|release curve") k
+
+-- Of all others. A level is oscillator 2's or the noise's.
+abbrev pub otherName : ℕ → List ℕ
+otherName n = wordOf (ascii "PWM source|pulse|saw|PWM depth|resonance|poles|gate time|level") (placeOf (16 ∷ 18 ∷ 19 ∷ 25 ∷ 41 ∷ 51 ∷ 160 ∷ []) n)
+
+-- Bytes 0 to 13 are two LFOs', of seven each, and 53 to 79 three envelopes', of nine each.
+unfoldable pub byteName : ℕ → List ℕ
+byteName n = cond (ltb n 14) (lfoName (n % 7)) (cond (ltb n 53) (otherName n) (cond (ltb n 80) (envelopeName ((n - 53) % 9)) (otherName n)))

@@ -1,0 +1,107 @@
+-- THE HEIGHT OF AN LFO, of any shape and any slew: at every position it is a number from 0 to 1, and lies within 1 / 4,096 of the exact height; at slew 0
+-- within 1 / 262,144. Assumes nothing.
+use mathlib.Core.Path.{_≡_, sym, subst}
+use mathlib.Core.Logic.{_⊎_, inl, inr}
+use mathlib.Core.Bool.{Bool, true, false, not, cond, _||_}
+use Prim.Native.Nat.{ℕ, suc, _≤_, _<_}
+use native.Mathlib.Omega.{arith}
+use lib.Dec.{T}
+use lib.Ieee.{Float, binary32, ofBits, ofInt, fits, le, div}
+use Rattle.exact.specs.Fraction.{ratio, unitℚ, _≤ℚ_}
+use Rattle.exact.specs.Value.{value}
+use Rattle.exact.specs.Binary32.{_⊗_, bits, zero₃₂}
+use Rattle.exact.proofs.Order.{or-cases, lt-at-most}
+use Rattle.lists.proofs.Every.{every, each}
+use Rattle.curve.specs.Curve.{positionOf, drawnOf, Drawn}
+use Rattle.curve.proofs.Clamped.{drawn-near}
+use Rattle.settings.specs.declared.LfoShape.{LfoShape}
+use Rattle.settings.specs.declared.Lfo.{Lfo}
+use Rattle.settings.specs.Settings.{turnsOf, byteOf, lfoOf}
+use Rattle.settings.proofs.Ranges.{LfoRange}
+use Rattle.settings.proofs.Bytes.{byte-level, byte-holds}
+use Rattle.settings.proofs.Given.{lfo-range}
+use Rattle.lfo_shapes.specs.Formula.{shapeAtOf}
+use Rattle.lfo_shapes.specs.Exact.{shapeℚ}
+use Rattle.lfo_shapes.proofs.ShapeError.{shape-drawn}
+use Rattle.lfo_shapes.proofs.DrawnPhase.{Spanned, position-spanned}
+use Rattle.lfo.specs.Formula.{placeOf, limitOf, cutAfter, fullSteps, walkedOf, lfoHeightOf}
+use Rattle.lfo.specs.Exact.{limitℚ, cutAfterℚ, lfoHeightℚ}
+use Rattle.lfo.specs.Steps.{Steps}
+use Rattle.lfo.proofs.MostError.{Slew}
+use Rattle.lfo.proofs.Places.{place-finite}
+use Rattle.lfo.proofs.Steps.{steps-at}
+use Rattle.lfo.proofs.WalkError.{cut-near, walk-near}
+
+-- ---- WHAT THE WALK USES OF AN LFO: a slew is 0, or from 1/255 to 1
+pub record WalkRange (l : Lfo) : Type 0 where
+  pub range : LfoRange l
+  pub slewed : T (not (le (l .slew) zero₃₂)) → Slew (l .slew)
+
+-- every byte gives such a one
+slew-test : ℕ → Bool
+slew-test b = le (byteOf b) zero₃₂ || le (bits 0x3b80_8081) (byteOf b)
+
+all-slews : T (every slew-test 256)
+unfolding every slew-test byteOf ofBits ofInt div le
+all-slews = tt
+
+byte-slew : (b : ℕ) → b < 256 → T (not (le (byteOf b) zero₃₂)) → Slew (byteOf b)
+unfolding slew-test
+byte-slew b h n =
+    record { holds = byte-holds b; from = go (le (bits 0x3b80_8081) (byteOf b)) (le (byteOf b) zero₃₂) (or-cases (le (byteOf b) zero₃₂) (le (bits 0x3b80_8081) (byteOf b)) (each slew-test 256 b all-slews h)) n; to = byte-level b h .to }
+  where
+    go : (x z : Bool) → T z ⊎ T x → T (not z) → T x
+    go x false (inl a) n = absurd a
+    go x true (inl a) n = absurd n
+    go x z (inr r) n = r
+
+pub walk-range : (shape slew sync : ℕ) (unipolar : Bool) → slew < 256 → WalkRange (lfoOf shape slew sync unipolar)
+unfolding lfoOf
+walk-range shape slew sync unipolar h = record { range = lfo-range shape slew sync unipolar h; slewed = byte-slew slew h }
+
+-- ---- AT SLEW 0, the shape's own level
+unslewed : (s : LfoShape) (t turns : Float) → T (fits binary32 t) → turns ≡ turnsOf s
+    → Drawn (drawnOf (shapeAtOf s (positionOf t ⊗ turns)) .height) (unitℚ (shapeℚ s (value (positionOf t ⊗ turns)))) (ratio 1 262144)
+unslewed s t turns f e =
+    subst (λ (x : Float). Drawn (drawnOf (shapeAtOf s (positionOf t ⊗ x)) .height) (unitℚ (shapeℚ s (value (positionOf t ⊗ x)))) (ratio 1 262144)) (sym e) (shape-drawn s t f)
+
+-- ---- AT A SLEW ABOVE 0, the walk's: its full steps end at or below the phase
+passed : (phase : Float) (n : ℕ) → Spanned phase → Steps phase (suc n) → value (placeOf n) ≤ℚ value phase
+passed phase n p s = lt-at-most (placeOf n) phase (place-finite n (lower n (s .most))) (p .number) (s .first n (upper n (s .least)) (next n)) .le
+  where
+    lower : (n : ℕ) → suc n ≤ 672 → n ≤ 672
+    lower n h = omega arith
+
+    upper : (n : ℕ) → 96 ≤ suc n → 1 ≤ n
+    upper n h = omega arith
+
+    next : (n : ℕ) → n < suc n
+    next n = omega arith
+
+walked-drawn : (l : Lfo) (phase : Float) → Slew (l .slew) → Spanned phase
+    → Drawn (walkedOf l phase .height) (unitℚ (cutAfterℚ (l .shape) (limitℚ (value (l .slew))) phase (fullSteps phase))) (ratio 1 4096)
+unfolding walkedOf
+walked-drawn l phase h p =
+    let n = fullSteps phase in
+    let k = steps-at phase p in
+    let u = passed phase n p k in
+    let x = cutAfter (l .shape) (limitOf (l .slew)) phase n in
+    let X = cutAfterℚ (l .shape) (limitℚ (value (l .slew))) phase n in
+    unfold drawnOf in drawn-near x X 1 4096 (cut-near (l .shape) (l .slew) phase n h p (k .most) u .holds) (walk-near (l .shape) (l .slew) phase n h p (k .most) u)
+
+-- THE HEIGHT
+pub lfo-drawn : (l : Lfo) (t : Float) → WalkRange l → T (fits binary32 t) → Drawn (lfoHeightOf l t .height) (lfoHeightℚ l t) (cond (le (l .slew) zero₃₂) (ratio 1 262144) (ratio 1 4096))
+unfolding lfoHeightOf lfoHeightℚ
+lfo-drawn l t r f = go (le (l .slew) zero₃₂) (r .slewed)
+  where
+    phase : Float
+    phase = positionOf t ⊗ l .turns
+
+    spanned : Spanned phase
+    spanned = subst (λ (x : Float). Spanned (positionOf t ⊗ x)) (sym (r .range .turns)) (position-spanned (l .shape) t f)
+
+    go : (b : Bool) → (T (not b) → Slew (l .slew))
+        → Drawn ((cond b (drawnOf (shapeAtOf (l .shape) phase)) (walkedOf l phase)) .height)
+        (cond b (unitℚ (shapeℚ (l .shape) (value phase))) (unitℚ (cutAfterℚ (l .shape) (limitℚ (value (l .slew))) phase (fullSteps phase)))) (cond b (ratio 1 262144) (ratio 1 4096))
+    go true k = unslewed (l .shape) t (l .turns) f (r .range .turns)
+    go false k = walked-drawn l phase (k tt) spanned

@@ -1,0 +1,16 @@
+-- `lfo_height` is `lfoHeightOf`: with no slew the shape itself, else the walk. Assumes nothing.
+use Rattle.lfo.specs.Formula.{lfoHeightOf}
+use borrow.Author.Needs.{needs}
+use Rattle.lfo.proofs.lfo_height.Statement.{statement}
+use Rattle.lfo.proofs.lfo_height.Tie as tie
+
+returns : tie.Need-returns
+unfolding lfoHeightOf
+returns c = simp (c .before .if1 .taken, c .unslewed-height .ensures)
+
+returns-2 : tie.Need-returns-2
+unfolding lfoHeightOf
+returns-2 c = simp (c .before .if1 .left, c .slewed-height .ensures)
+
+pub lfo-height-spec : {M : Type 1} → statement M
+lfo-height-spec = tie.close (tie.spec (λ c κs. search needs) returns (λ c κs. search needs) returns-2)

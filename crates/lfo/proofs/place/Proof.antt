@@ -1,0 +1,14 @@
+-- `place` is `placeOf`: the constant is the step, 1 / 96 rounded. Assumes nothing.
+use mathlib.Core.Path.{refl}
+use lib.Ieee.{ofBits, neg, div}
+use Rattle.lfo.specs.Formula.{stepOf, placeOf}
+use borrow.Author.Needs.{needs}
+use Rattle.lfo.proofs.place.Statement.{statement}
+use Rattle.lfo.proofs.place.Tie as tie
+
+returns : tie.Need-returns
+unfolding stepOf placeOf ofBits neg div
+returns c = refl
+
+pub place-spec : {M : Type 1} → statement M
+place-spec = tie.close (tie.spec (λ c. search needs) returns)

@@ -1,0 +1,4 @@
+-- The laws of a written slice; a test over all numbers below a bound, and over all rows of a table.
+pub mod Written
+pub mod Every
+pub mod Rows

@@ -1,0 +1,2 @@
+-- A slice that is written from its start.
+pub mod Written

@@ -1,2 +1,0 @@
--- The names of generators and of their bytes.
-pub mod Names

@@ -1,2 +1,0 @@
--- What a byte stands for.
-pub mod Notes

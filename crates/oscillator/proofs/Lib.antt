@@ -1,0 +1,2 @@
+-- How near the oscillator is to its exact height.
+pub mod Distance

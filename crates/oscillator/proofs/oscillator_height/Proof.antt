@@ -1,0 +1,13 @@
+-- `oscillator_height` is `oscillatorHeightOf`. Assumes nothing.
+use Rattle.oscillator.specs.Formula.{oscillatorHeightOf}
+use borrow.Author.Needs.{needs}
+use Rattle.oscillator.proofs.oscillator_height.Statement.{statement}
+use Rattle.oscillator.proofs.oscillator_height.Tie as tie
+
+returns : tie.Need-returns
+unfolding oscillatorHeightOf
+returns c = cc
+
+pub oscillator-height-spec : {M : Type 1} → statement M
+oscillator-height-spec =
+    tie.close (tie.spec (λ c κs. search needs) (λ c κs. search needs) (λ c κs. search needs) returns)

@@ -1,0 +1,2 @@
+-- Why an input is refused.
+pub mod Refusals

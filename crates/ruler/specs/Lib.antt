@@ -1,2 +1,0 @@
--- A height between two marks of a ruler.
-pub mod Ruler

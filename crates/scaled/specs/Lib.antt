@@ -1,2 +1,0 @@
--- A height as a whole number.
-pub mod Scaled

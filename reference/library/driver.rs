@@ -1,0 +1,786 @@
+//! Compares everything that the static library offers with the unchanged reference: equal bits, NaN with NaN, zero with zero. What the reference
+//! doesn't have is restated here: steps (beside its walk, in answers.rs), strips, captions, bars and refusals. Every difference is printed with its input.
+
+use crate::answers::{
+    self, POSITIONS, READ, Setting, Taps, block, build, kind, neighbours, place, scale, slewed, steps_of,
+};
+use crate::generator::{GATES_DRAWN, Generator, arpeggiator_gates};
+use crate::juvrada::{self, BLOCK, CountResult, MAX_MARKS, MAX_SETTINGS, MAX_STRIP, MIN_STRIP, StripResult};
+use crate::random::Random;
+use crate::stand_in::Program;
+use std::sync::atomic::{AtomicU64, AtomicUsize, Ordering::Relaxed};
+use std::time::{Duration, Instant};
+
+fn agree(ours: f32, theirs: f32) -> bool {
+    // Floats that are equal and whose bits differ are zeros.
+    ours.to_bits() == theirs.to_bits() || ours == theirs || ours.is_nan() && theirs.is_nan()
+}
+
+// ---- what is lent
+
+/// An entry of a lent array. Before the call each holds a value of its own, which no answer is.
+trait Entry: Copy + PartialEq {
+    fn fresh(i: usize) -> Self;
+}
+
+impl Entry for f32 {
+    fn fresh(i: usize) -> Self {
+        f32::from_bits(0x5a00_0000 + i as u32)
+    }
+}
+
+impl Entry for u8 {
+    fn fresh(i: usize) -> Self {
+        0x40 + (i % 64) as u8
+    }
+}
+
+/// A lent array, with entries on either side that nobody may write.
+struct Lent<T>(Vec<T>);
+
+const BESIDE: usize = 8;
+
+impl<T: Entry> Lent<T> {
+    fn new(n: usize) -> Self {
+        Self((0..n + 2 * BESIDE).map(T::fresh).collect())
+    }
+
+    fn pointer(&mut self) -> *mut T {
+        self.0[BESIDE..].as_mut_ptr()
+    }
+
+    fn first(&self, n: usize) -> &[T] {
+        &self.0[BESIDE..BESIDE + n]
+    }
+
+    /// Whether all but the first entries are as they were, those beside the array too.
+    fn kept_from(&self, count: usize) -> bool {
+        let written = BESIDE..BESIDE + count;
+        let kept = |(i, &x): (usize, &T)| written.contains(&i) || x == T::fresh(i);
+        self.0.iter().enumerate().all(kept)
+    }
+}
+
+// ---- counts
+
+const COUNTED: usize = 14;
+
+/// How many of each were compared.
+#[derive(Clone, Copy)]
+enum Counted {
+    Heights,
+    Slewed,
+    Samples,
+    Strips,
+    Captions,
+    Captioned,
+    Settings,
+    Marks,
+    Others,
+    Gates,
+    Bars,
+    TapHeights,
+    TapMarks,
+    Refusals,
+}
+
+/// What all threads share.
+struct Shared {
+    counts: [AtomicU64; COUNTED],
+    different: AtomicUsize,
+}
+
+/// The most differences that are printed.
+const PRINTED: usize = 40;
+
+/// What one thread works with.
+struct Work<'a> {
+    shared: &'a Shared,
+    counts: [u64; COUNTED],
+    random: Random,
+}
+
+/// A code's input, as it is printed.
+fn shown(code: usize, program: &Program) -> String {
+    let bytes: Vec<String> = READ[code].iter().map(|&n| format!("{n}: {}", program.0[n])).collect();
+    format!("code {code}, bytes {{{}}}", bytes.join(", "))
+}
+
+impl Work<'_> {
+    fn count(&mut self, what: Counted, n: usize) {
+        self.counts[what as usize] += n as u64;
+    }
+
+    fn differ(&self, text: impl FnOnce() -> String) {
+        if self.shared.different.fetch_add(1, Relaxed) < PRINTED {
+            println!("different: {}", text());
+        }
+    }
+
+    fn flush(&mut self) {
+        for (sum, n) in self.shared.counts.iter().zip(&mut self.counts) {
+            sum.fetch_add(*n, Relaxed);
+            *n = 0;
+        }
+    }
+
+    // ---- one comparison each
+
+    fn height(&mut self, code: usize, program: &Program, generator: &Generator, t: f32) {
+        let ours = unsafe { juvrada::juvrada_height(program.0.as_ptr(), BLOCK, code as u8, t) };
+        let (theirs, steps) = (generator.at(t), steps_of(code, program, generator, t));
+        if ours.refusal != 0 || !agree(ours.height, theirs) || ours.steps != steps {
+            self.differ(|| {
+                let input = shown(code, program);
+                let (t, b) = (t, t.to_bits());
+                format!("height of {input} at {t} ({b:08x}): {ours:?}, the reference has {theirs}, steps {steps}")
+            });
+        }
+        self.count(Counted::Heights, 1);
+        self.count(Counted::Slewed, usize::from(steps > 0));
+    }
+
+    fn settings(&mut self, code: usize, program: &Program, generator: &Generator) {
+        let mut lent = Lent::new(MAX_SETTINGS);
+        let ours = unsafe { juvrada::juvrada_settings(program.0.as_ptr(), BLOCK, code as u8, lent.pointer()) };
+        let number = |setting| match setting {
+            Setting::Float(x) => x,
+            Setting::Number(n) => f32::from(n),
+        };
+        let theirs: Vec<f32> = answers::settings(code, generator).into_iter().map(number).collect();
+        let n = theirs.len();
+        let same = lent.first(n).iter().zip(&theirs).all(|(&a, &b)| agree(a, b));
+        if !same || ours != accepted(n) || !lent.kept_from(n) {
+            let all = lent.first(MAX_SETTINGS);
+            self.differ(|| {
+                let input = shown(code, program);
+                format!("settings of {input}: {ours:?} {all:?}, the reference has {theirs:?}")
+            });
+        }
+        self.count(Counted::Settings, n);
+    }
+
+    fn marks(&mut self, code: usize, program: &Program, generator: &Generator) {
+        let (mut at, mut kinds) = (Lent::new(MAX_MARKS), Lent::new(MAX_MARKS));
+        let ours =
+            unsafe { juvrada::juvrada_marks(program.0.as_ptr(), BLOCK, code as u8, at.pointer(), kinds.pointer()) };
+        let n = self.same_marks(generator, ours, &at, &kinds, || shown(code, program));
+        self.count(Counted::Marks, n);
+    }
+
+    fn same_marks(
+        &self,
+        generator: &Generator,
+        ours: CountResult,
+        at: &Lent<f32>,
+        kinds: &Lent<u8>,
+        input: impl FnOnce() -> String,
+    ) -> usize {
+        let theirs: Vec<(f32, u8)> = generator.marks().map(|mark| (mark.at(), kind(mark.kind()))).collect();
+        let n = theirs.len();
+        let same = (0..n).all(|i| agree(at.first(n)[i], theirs[i].0) && kinds.first(n)[i] == theirs[i].1);
+        if !same || ours != accepted(n) || !at.kept_from(n) || !kinds.kept_from(n) {
+            let (at, kinds) = (at.first(MAX_MARKS), kinds.first(MAX_MARKS));
+            self.differ(|| {
+                let input = input();
+                format!("marks of {input}: {ours:?} {at:?} {kinds:?}, the reference has {theirs:?}")
+            });
+        }
+        n
+    }
+
+    /// Rest, scale and whether it is anchored.
+    fn others(&mut self, code: usize, program: &Program, generator: &Generator) {
+        let (at, byte) = (program.0.as_ptr(), code as u8);
+        let rest = unsafe { juvrada::juvrada_rest(at, BLOCK, byte) };
+        if rest.refusal != 0 || !agree(rest.level, generator.rest()) {
+            self.differ(|| {
+                format!(
+                    "rest of {}: {rest:?}, the reference has {}",
+                    shown(code, program),
+                    generator.rest()
+                )
+            });
+        }
+        let ours = unsafe { juvrada::juvrada_scale(at, BLOCK, byte) };
+        let theirs = scale(generator.scale());
+        if ours.refusal != 0 || ours.kind != theirs.0 || !agree(ours.number, theirs.1) {
+            self.differ(|| {
+                format!(
+                    "scale of {}: {ours:?}, the reference has {theirs:?}",
+                    shown(code, program)
+                )
+            });
+        }
+        let ours = unsafe { juvrada::juvrada_anchored(at, BLOCK, byte) };
+        let theirs = generator.anchored();
+        if ours.refusal != 0 || ours.anchored != u32::from(theirs) {
+            self.differ(|| {
+                format!(
+                    "anchored of {}: {ours:?}, the reference has {theirs}",
+                    shown(code, program)
+                )
+            });
+        }
+        self.count(Counted::Others, 3);
+    }
+
+    /// All that a generator says of itself.
+    fn about(&mut self, code: usize, program: &Program, generator: &Generator) {
+        self.settings(code, program, generator);
+        self.marks(code, program, generator);
+        self.others(code, program, generator);
+    }
+
+    fn strip(&mut self, code: usize, program: &Program, generator: &Generator, n: usize) {
+        let mut lent = Lent::new(n);
+        let ours = unsafe { juvrada::juvrada_strip(program.0.as_ptr(), BLOCK, code as u8, lent.pointer(), n) };
+        let mut steps = 0;
+        for (i, &sample) in lent.first(n).iter().enumerate() {
+            let t = sample_position(i, n);
+            let theirs = generator.at(t);
+            steps += steps_of(code, program, generator, t);
+            if !agree(sample, theirs) {
+                self.differ(|| {
+                    let input = shown(code, program);
+                    format!("sample {i} of a strip of {n} of {input}: {sample}, the reference has {theirs}")
+                });
+            }
+        }
+        if ours != (StripResult { refusal: 0, steps }) || !lent.kept_from(n) {
+            self.differ(|| {
+                format!(
+                    "strip of {n} of {}: {ours:?}, the steps are {steps}",
+                    shown(code, program)
+                )
+            });
+        }
+        self.count(Counted::Strips, 1);
+        self.count(Counted::Samples, n);
+    }
+
+    fn captions(&mut self, code: usize, program: &Program, generator: &Generator, n: usize) {
+        let mut lent = Lent::new(n);
+        let refusal = unsafe { juvrada::juvrada_captions(program.0.as_ptr(), BLOCK, code as u8, lent.pointer(), n) };
+        let expected = |i: usize| {
+            if code > 2 {
+                return 255;
+            }
+            if i == 0 {
+                return 0;
+            }
+            let t = sample_position(i, n);
+            let before = generator.marks().filter(|mark| mark.at() <= t);
+            before
+                .map(|mark| kind(mark.kind()))
+                .last()
+                .expect("the attack starts at 0")
+        };
+        for (i, &caption) in lent.first(n).iter().enumerate() {
+            let expected = expected(i);
+            if caption != expected {
+                self.differ(|| {
+                    let input = shown(code, program);
+                    format!("caption {i} of {n} of {input}: {caption}, expected {expected}")
+                });
+            }
+        }
+        if refusal != 0 || !lent.kept_from(n) {
+            self.differ(|| format!("{n} captions of {}: refusal {refusal}", shown(code, program)));
+        }
+        self.count(Counted::Captions, 1);
+        self.count(Counted::Captioned, n);
+    }
+
+    fn gates(&mut self, program: &Program) {
+        let gates: Vec<(f32, f32)> = arpeggiator_gates(program)
+            .map(|gate| (gate.start(), gate.end()))
+            .collect();
+        // A gate that starts where the bar before it ends prolongs that bar.
+        let mut bars: Vec<(f32, f32)> = Vec::new();
+        for &(start, end) in &gates {
+            match bars.last_mut() {
+                Some(bar) if bar.1 == start => bar.1 = end,
+                _ => bars.push((start, end)),
+            }
+        }
+        let byte = program.0[160];
+        let (mut start, mut end) = (Lent::new(GATES_DRAWN), Lent::new(GATES_DRAWN));
+        let ours = unsafe { juvrada::juvrada_gates(program.0.as_ptr(), BLOCK, start.pointer(), end.pointer()) };
+        self.same_stretches("gates", byte, ours, &start, &end, &gates);
+        let (mut start, mut end) = (Lent::new(GATES_DRAWN), Lent::new(GATES_DRAWN));
+        let ours = unsafe { juvrada::juvrada_bars(program.0.as_ptr(), BLOCK, start.pointer(), end.pointer()) };
+        self.same_stretches("bars", byte, ours, &start, &end, &bars);
+        self.count(Counted::Gates, gates.len());
+        self.count(Counted::Bars, bars.len());
+    }
+
+    fn same_stretches(
+        &self,
+        what: &str,
+        byte: u8,
+        ours: CountResult,
+        start: &Lent<f32>,
+        end: &Lent<f32>,
+        theirs: &[(f32, f32)],
+    ) {
+        let n = theirs.len();
+        let same = (0..n).all(|i| agree(start.first(n)[i], theirs[i].0) && agree(end.first(n)[i], theirs[i].1));
+        if !same || ours != accepted(n) || !start.kept_from(n) || !end.kept_from(n) {
+            let (start, end) = (start.first(GATES_DRAWN), end.first(GATES_DRAWN));
+            self.differ(|| format!("{what} of byte {byte}: {ours:?} {start:?} {end:?}, expected {theirs:?}"));
+        }
+    }
+
+    fn taps(&mut self, taps: &Taps, positions: impl IntoIterator<Item = u32>) {
+        let generator = taps.generator();
+        let (at, tall, used) = (taps.at, taps.tall, taps.used);
+        for b in positions {
+            let t = f32::from_bits(b);
+            let ours = unsafe { juvrada::juvrada_taps_height(at.as_ptr(), tall.as_ptr(), used, t) };
+            let theirs = generator.at(t);
+            if ours.refusal != 0 || ours.steps != 0 || !agree(ours.height, theirs) {
+                self.differ(|| {
+                    format!("taps {at:?} {tall:?} {used} at {t} ({b:08x}): {ours:?}, the reference has {theirs}")
+                });
+            }
+            self.count(Counted::TapHeights, 1);
+        }
+        let (mut places, mut kinds) = (Lent::new(MAX_MARKS), Lent::new(MAX_MARKS));
+        let ours =
+            unsafe { juvrada::juvrada_taps_marks(at.as_ptr(), tall.as_ptr(), used, places.pointer(), kinds.pointer()) };
+        let n = self.same_marks(&generator, ours, &places, &kinds, || {
+            format!("taps {at:?} {tall:?} {used}")
+        });
+        self.count(Counted::TapMarks, n);
+    }
+
+    /// Every function that looks at the block, with input that is refused: the refusal, zeros beside it, and everything lent as it was.
+    fn refused(&mut self, bytes: &[u8], code: u8, n: usize) {
+        let (at, len) = (bytes.as_ptr(), bytes.len());
+        let block = if len != BLOCK { 1 } else { 0 };
+        let curve = if block != 0 {
+            block
+        } else if code > 13 {
+            2
+        } else {
+            0
+        };
+        let strip = if curve != 0 {
+            curve
+        } else if !(MIN_STRIP..=MAX_STRIP).contains(&n) {
+            3
+        } else {
+            0
+        };
+        let mut wrong: Vec<String> = Vec::new();
+        let mut asked = 0;
+        let mut see = |good: bool, text: String| {
+            asked += 1;
+            if !good {
+                wrong.push(text);
+            }
+        };
+        if strip != 0 {
+            let mut out = Lent::new(n);
+            let r = unsafe { juvrada::juvrada_strip(at, len, code, out.pointer(), n) };
+            see(
+                r == StripResult {
+                    refusal: strip,
+                    steps: 0,
+                } && out.kept_from(0),
+                format!("strip {r:?}"),
+            );
+            let mut out = Lent::new(n);
+            let r = unsafe { juvrada::juvrada_captions(at, len, code, out.pointer(), n) };
+            see(r == strip && out.kept_from(0), format!("captions {r}"));
+        }
+        let none = |refusal| CountResult { refusal, count: 0 };
+        if curve != 0 {
+            let t = self.random.unit();
+            let r = unsafe { juvrada::juvrada_height(at, len, code, t) };
+            see(
+                (r.refusal, r.steps, r.height.to_bits()) == (curve, 0, 0),
+                format!("height {r:?}"),
+            );
+            let (mut places, mut kinds) = (Lent::new(MAX_MARKS), Lent::new(MAX_MARKS));
+            let r = unsafe { juvrada::juvrada_marks(at, len, code, places.pointer(), kinds.pointer()) };
+            see(
+                r == none(curve) && places.kept_from(0) && kinds.kept_from(0),
+                format!("marks {r:?}"),
+            );
+            let r = unsafe { juvrada::juvrada_rest(at, len, code) };
+            see((r.refusal, r.level.to_bits()) == (curve, 0), format!("rest {r:?}"));
+            let r = unsafe { juvrada::juvrada_scale(at, len, code) };
+            see(
+                (r.refusal, r.kind, r.number.to_bits()) == (curve, 0, 0),
+                format!("scale {r:?}"),
+            );
+            let r = unsafe { juvrada::juvrada_anchored(at, len, code) };
+            see((r.refusal, r.anchored) == (curve, 0), format!("anchored {r:?}"));
+            let mut out = Lent::new(MAX_SETTINGS);
+            let r = unsafe { juvrada::juvrada_settings(at, len, code, out.pointer()) };
+            see(r == none(curve) && out.kept_from(0), format!("settings {r:?}"));
+        }
+        if block != 0 {
+            let (mut start, mut end) = (Lent::new(GATES_DRAWN), Lent::new(GATES_DRAWN));
+            let r = unsafe { juvrada::juvrada_gates(at, len, start.pointer(), end.pointer()) };
+            see(
+                r == none(block) && start.kept_from(0) && end.kept_from(0),
+                format!("gates {r:?}"),
+            );
+            let (mut start, mut end) = (Lent::new(GATES_DRAWN), Lent::new(GATES_DRAWN));
+            let r = unsafe { juvrada::juvrada_bars(at, len, start.pointer(), end.pointer()) };
+            see(
+                r == none(block) && start.kept_from(0) && end.kept_from(0),
+                format!("bars {r:?}"),
+            );
+        }
+        for text in wrong {
+            self.differ(|| {
+                format!("refusal of a block of {len}, code {code}, {n} samples: {text}, or what was lent is written to")
+            });
+        }
+        self.count(Counted::Refusals, asked);
+    }
+}
+
+fn accepted(n: usize) -> CountResult {
+    CountResult {
+        refusal: 0,
+        count: n as u32,
+    }
+}
+
+/// Where sample i of n lies.
+fn sample_position(i: usize, n: usize) -> f32 {
+    i as f32 / (n - 1) as f32
+}
+
+// ---- what is drawn
+
+/// A block whose looked-up bytes are often ones that the tables name.
+fn drawn_block(random: &mut Random) -> Program {
+    let mut program = block(random, &[], &[]);
+    let mut often = |at: usize, below: usize| {
+        if random.below(4) > 0 {
+            program.0[at] = random.below(below) as u8;
+        }
+    };
+    for (at, below) in [(2, 8), (9, 8), (3, 2), (10, 2), (16, 7), (18, 2), (19, 2), (51, 3)] {
+        often(at, below);
+    }
+    for at in [6, 13, 53, 54, 56, 62, 63, 65, 71, 72, 74] {
+        if random.below(4) == 0 {
+            program.0[at] = 0;
+        }
+    }
+    program
+}
+
+/// Positions of every kind, every mark and its neighbours, places where a walk takes a step more, and some at random.
+fn positions(random: &mut Random, code: usize, program: &Program, generator: &Generator, drawn: usize) -> Vec<u32> {
+    let mut all = POSITIONS.to_vec();
+    for mark in generator.marks() {
+        let b = mark.at().to_bits();
+        all.extend([b.wrapping_sub(1), b, b.wrapping_add(1)]);
+    }
+    if slewed(code, program) {
+        let turns = scale(generator.scale()).1;
+        for _ in 0..2 {
+            let count = 96 + random.below(96 * turns as usize) as u16;
+            all.extend(neighbours(place(count) / turns));
+        }
+    }
+    all.extend((0..drawn).map(|_| random.unit().to_bits()));
+    all.push(random.next() as u32);
+    all
+}
+
+/// The length of a strip: mostly short, now and then long or an end of what is allowed.
+fn drawn_length(random: &mut Random) -> usize {
+    match random.below(256) {
+        0 => MAX_STRIP,
+        1 => MIN_STRIP,
+        2 => MIN_STRIP + random.below(MAX_STRIP - MIN_STRIP + 1),
+        _ => MIN_STRIP + random.below(40),
+    }
+}
+
+// ---- jobs
+
+type Job = Box<dyn Fn(&mut Work) + Send + Sync>;
+
+/// Every value of one byte that a code reads, the others random.
+fn every_value(work: &mut Work, code: usize, column: usize) {
+    for value in 0..=255 {
+        for _ in 0..6 {
+            let mut program = drawn_block(&mut work.random);
+            program.0[READ[code][column]] = value;
+            let generator = build(code, &program);
+            work.about(code, &program, &generator);
+            for b in positions(&mut work.random, code, &program, &generator, 6) {
+                work.height(code, &program, &generator, f32::from_bits(b));
+            }
+        }
+    }
+}
+
+/// A generator of these bytes, what it says of itself, and some heights.
+fn one(work: &mut Work, code: usize, bytes: &[u8], heights: usize) {
+    let program = block(&mut work.random, READ[code], bytes);
+    let generator = build(code, &program);
+    work.about(code, &program, &generator);
+    for _ in 0..heights {
+        let t = work.random.unit();
+        work.height(code, &program, &generator, t);
+    }
+}
+
+/// Every slew of a shape, with a short strip.
+fn every_slew(work: &mut Work, code: usize, shape: u8) {
+    for slew in 0..=255 {
+        let bytes = [shape, work.random.byte() & 1, slew];
+        one(work, code, &bytes, 12);
+        let program = block(&mut work.random, READ[code], &bytes);
+        work.strip(code, &program, &build(code, &program), 33);
+    }
+}
+
+/// All that is offered, of every code of a random block.
+fn whole_block(work: &mut Work, program: &Program) {
+    for code in 0..14 {
+        let generator = build(code, program);
+        work.about(code, program, &generator);
+        for b in positions(&mut work.random, code, program, &generator, 4) {
+            work.height(code, program, &generator, f32::from_bits(b));
+        }
+        let n = drawn_length(&mut work.random);
+        work.strip(code, program, &generator, n);
+        work.captions(code, program, &generator, n);
+    }
+    work.gates(program);
+}
+
+/// Strips and captions of telling lengths.
+fn lengths(work: &mut Work, code: usize, slew: Option<u8>, shape: u8) {
+    for n in [2, 3, 4, 63, 64, 511, 512, 4095, 4096] {
+        let mut program = drawn_block(&mut work.random);
+        if let Some(slew) = slew {
+            program.0[READ[code][0]] = shape;
+            program.0[READ[code][2]] = slew;
+        }
+        let generator = build(code, &program);
+        work.strip(code, &program, &generator, n);
+        work.captions(code, &program, &generator, n);
+    }
+}
+
+/// Positions from 0 to 1 at an even distance of bits, 8 blocks in turn. LFOs have slew 0.
+fn sweep(work: &mut Work, code: usize) {
+    const STRIDE: usize = 1021;
+    let programs: Vec<Program> = (0..8)
+        .map(|_| {
+            let mut program = drawn_block(&mut work.random);
+            program.0[6] = 0;
+            program.0[13] = 0;
+            program
+        })
+        .collect();
+    let generators: Vec<Generator> = programs.iter().map(|program| build(code, program)).collect();
+    for (i, b) in (0..=0x3f80_0000u32).step_by(STRIDE).enumerate() {
+        let i = i % programs.len();
+        work.height(code, &programs[i], &generators[i], f32::from_bits(b));
+    }
+}
+
+fn refusals(work: &mut Work) {
+    let bytes = work.random.bytes(1000);
+    for len in [0, 1, 160, 241, 242, 243, 484, 1000] {
+        for code in 0..=255 {
+            for n in [0, 1, 2, 4096, 4097, 5000] {
+                work.refused(&bytes[..len], code, n);
+            }
+        }
+    }
+}
+
+/// Every length of a block that is near, and every length of a strip that is.
+fn refusal_ends(work: &mut Work) {
+    let bytes = work.random.bytes(600);
+    for len in 0..=600 {
+        work.refused(&bytes[..len], (len % 20) as u8, 100);
+    }
+    for n in (0..=20).chain(4080..=4200) {
+        for code in 0..14 {
+            work.refused(&bytes[..BLOCK], code, n);
+        }
+    }
+}
+
+fn jobs() -> Vec<Job> {
+    let mut all: Vec<Job> = vec![Box::new(refusals), Box::new(refusal_ends)];
+    for code in 0..14 {
+        for column in 0..READ[code].len() {
+            all.push(Box::new(move |work| every_value(work, code, column)));
+        }
+        all.push(Box::new(move |work| sweep(work, code)));
+        all.push(Box::new(move |work| lengths(work, code, None, 0)));
+    }
+    for code in 3..7 {
+        for shape in 0..8 {
+            all.push(Box::new(move |work| every_slew(work, code, shape)));
+        }
+    }
+    for shape in 0..7 {
+        for slew in [0, 1, 128, 255] {
+            let code = 3 + usize::from(shape + slew) % 4;
+            all.push(Box::new(move |work| lengths(work, code, Some(slew), shape)));
+        }
+    }
+    for pole in 0..=255 {
+        all.push(Box::new(move |work| {
+            (0..=255).for_each(|resonance| one(work, 9, &[resonance, pole], 4));
+        }));
+    }
+    for source in 0..=255 {
+        all.push(Box::new(move |work| {
+            for depth in 0..=255 {
+                for waves in 0..4 {
+                    one(work, 11, &[source, waves & 1, waves >> 1, depth], 2);
+                }
+            }
+        }));
+    }
+    for code in [0, 1, 2] {
+        // Every curve of each segment with every level: the sustain's, then the others with their times.
+        for curve in 0..=255 {
+            all.push(Box::new(move |work| {
+                for level in 0..=255 {
+                    let mut bytes = work.random.bytes(8);
+                    bytes[2] = level;
+                    bytes[4 + usize::from(level) % 4] = curve;
+                    bytes[6] = curve;
+                    one(work, code, &bytes, 4);
+                }
+            }));
+        }
+    }
+    all.push(Box::new(|work| {
+        for value in 0..=255 {
+            for _ in 0..8 {
+                let program = block(&mut work.random, &[160], &[value]);
+                work.gates(&program);
+            }
+        }
+    }));
+    for value in [0, 255] {
+        all.push(Box::new(move |work| whole_block(work, &Program([value; BLOCK]))));
+    }
+    for _ in 0..120 {
+        all.push(Box::new(|work| {
+            for _ in 0..100 {
+                let program = drawn_block(&mut work.random);
+                whole_block(work, &program);
+            }
+        }));
+    }
+    for _ in 0..20 {
+        all.push(Box::new(|work| {
+            for _ in 0..1000 {
+                let taps = Taps::drawn(&mut work.random);
+                let mut positions = POSITIONS.to_vec();
+                positions.extend(taps.positions());
+                positions.extend((0..4).map(|_| work.random.unit().to_bits()));
+                work.taps(&taps, positions);
+            }
+        }));
+    }
+    all
+}
+
+/// 1234567 as 1,234,567.
+fn grouped(n: u64) -> String {
+    let digits = n.to_string();
+    let group = |(i, c)| {
+        if i > 0 && (digits.len() - i) % 3 == 0 {
+            vec![',', c]
+        } else {
+            vec![c]
+        }
+    };
+    digits.chars().enumerate().flat_map(group).collect()
+}
+
+pub fn run() {
+    let started = Instant::now();
+    let jobs = jobs();
+    let shared = Shared {
+        counts: [const { AtomicU64::new(0) }; COUNTED],
+        different: AtomicUsize::new(0),
+    };
+    let (taken, done) = (AtomicUsize::new(0), AtomicUsize::new(0));
+    let threads = std::thread::available_parallelism().map_or(2, usize::from);
+    std::thread::scope(|scope| {
+        for _ in 0..threads {
+            scope.spawn(|| {
+                loop {
+                    let i = taken.fetch_add(1, Relaxed);
+                    let Some(job) = jobs.get(i) else { break };
+                    let mut work = Work {
+                        shared: &shared,
+                        counts: [0; COUNTED],
+                        // A job's numbers don't hang on which thread takes it.
+                        random: Random((i as u64 + 1) << 32),
+                    };
+                    job(&mut work);
+                    work.flush();
+                    done.fetch_add(1, Relaxed);
+                }
+            });
+        }
+        let mut told = Instant::now();
+        while done.load(Relaxed) < jobs.len() && shared.different.load(Relaxed) < PRINTED {
+            std::thread::sleep(Duration::from_millis(50));
+            if told.elapsed() > Duration::from_secs(5) {
+                eprintln!("reference/library: {} of {} parts", done.load(Relaxed), jobs.len());
+                told = Instant::now();
+            }
+        }
+        // There is enough to look at: no further part is begun.
+        taken.store(jobs.len(), Relaxed);
+    });
+    let of = |what: Counted| grouped(shared.counts[what as usize].load(Relaxed));
+    use Counted::{Bars, Captioned, Captions, Gates, Heights, Marks, Others, Refusals, Samples, Settings};
+    use Counted::{Slewed, Strips, TapHeights, TapMarks};
+    println!("heights {}, of them slewed {}", of(Heights), of(Slewed));
+    println!(
+        "samples {} of {} strips, captions {} of {}",
+        of(Samples),
+        of(Strips),
+        of(Captioned),
+        of(Captions)
+    );
+    println!(
+        "settings {}, marks {}, rest, scale, anchored {}",
+        of(Settings),
+        of(Marks),
+        of(Others)
+    );
+    println!(
+        "gates {}, bars {}, taps: heights {}, marks {}",
+        of(Gates),
+        of(Bars),
+        of(TapHeights),
+        of(TapMarks)
+    );
+    println!("refusals {}", of(Refusals));
+    let different = shared.different.load(Relaxed);
+    println!(
+        "different {different} ({:.0} s, {threads} threads)",
+        started.elapsed().as_secs_f64()
+    );
+    if different > 0 {
+        std::process::exit(1);
+    }
+}
