@@ -1,8 +1,8 @@
-//! Times the static library and the unchanged reference side by side, doing the same work, or counts their instructions; and prints the tables.
+//! Times the library and the unchanged reference side by side, doing the same work, or counts their instructions; and prints the tables.
 //!   driver time LAYOUT       a line for each figure and side, in seconds
-//!   driver count             under callgrind, one dump for each figure and side, and one for the loop alone
-//!   driver report FILE ..    the tables of what the other two wrote
-//! `run` says how they belong together.
+//!   driver count             under callgrind: a dump for each figure and side, and one for the driver's own loop
+//!   driver report FILE ..    the tables of what the other two left
+//! `run` puts them together.
 
 // The library's functions are declared here once more, in the form that every side has.
 #![allow(clashing_extern_declarations)]
@@ -15,6 +15,7 @@ use crate::juvrada::BLOCK;
 use crate::random::Random;
 use crate::stand_in::Program;
 use calls::{Answer, Height, Steps, Strip, StripAnswer, TapsHeight};
+use std::arch::asm;
 use std::ffi::CString;
 use std::hint::black_box;
 use std::time::{Duration, Instant};
@@ -23,7 +24,7 @@ use std::time::{Duration, Instant};
 /// spoils a round.
 const ROUNDS: usize = 40;
 
-/// Fewer rounds do where they take longer than this together, but never fewer than `FEWEST`.
+/// Fewer rounds do where they take longer than this together.
 const ENOUGH: Duration = Duration::from_millis(150);
 const FEWEST: usize = 4;
 
@@ -65,82 +66,76 @@ const SHAPES: [&str; 7] = [
 /// The slew of the LFOs that are slewed.
 const SLEW: u8 = 128;
 
+/// A library, or the reference in one form and at one level. Its functions are found by the code; only the known form has several.
 struct Side {
     name: &'static str,
-    height: Height,
-    strip: Strip,
+    height: [Height; 14],
+    strip: [Strip; 14],
     taps_height: TapsHeight,
 }
 
-macro_rules! side {
-    ($name:literal, $height:ident, $strip:ident, $taps_height:ident) => {{
+macro_rules! function {
+    ($type:ty, $($symbol:expr),*) => {{
         unsafe extern "C" {
-            fn $height(block: *const u8, block_len: usize, code: u32, t: f32) -> Answer;
-            fn $strip(block: *const u8, block_len: usize, code: u32, out: *mut f32, out_len: usize) -> StripAnswer;
-            fn $taps_height(at: *const f32, tall: *const f32, used: u32, t: f32) -> Answer;
+            #[link_name = concat!($($symbol),*)]
+            fn function();
         }
+        unsafe { std::mem::transmute::<unsafe extern "C" fn(), $type>(function) }
+    }};
+}
+
+macro_rules! side {
+    ($name:literal) => {
         Side {
             name: $name,
-            height: $height,
-            strip: $strip,
-            taps_height: $taps_height,
+            height: [function!(Height, $name, "_height"); 14],
+            strip: [function!(Strip, $name, "_strip"); 14],
+            taps_height: function!(TapsHeight, $name, "_taps_height"),
         }
-    }};
+    };
+    ($name:literal, $($code:literal)*) => {
+        Side {
+            name: $name,
+            height: [$(function!(Height, $name, "_", $code, "_height")),*],
+            strip: [$(function!(Strip, $name, "_", $code, "_strip")),*],
+            taps_height: function!(TapsHeight, $name, "_taps_height"),
+        }
+    };
 }
 
 fn sides() -> Vec<Side> {
     vec![
-        side!("ours", juvrada_height, juvrada_strip, juvrada_taps_height),
+        side!("juvrada"),
         #[cfg(before)]
-        side!("before", before_height, before_strip, before_taps_height),
-        side!("rust2", rust2_height, rust2_strip, rust2_taps_height),
-        side!("rust3", rust3_height, rust3_strip, rust3_taps_height),
+        side!("before"),
+        side!("called2"),
+        side!("called3"),
+        side!("inlined2"),
+        side!("inlined3"),
+        side!("known2", 0 1 2 3 4 5 6 7 8 9 10 11 12 13),
+        side!("known3", 0 1 2 3 4 5 6 7 8 9 10 11 12 13),
     ]
 }
 
-/// A side that does nothing: its count is that of the driver's loop.
+/// A side of one instruction, the return: its count is that of the driver's own loop.
 fn nothing() -> Side {
-    extern "C" fn height(_: *const u8, _: usize, _: u32, t: f32) -> Answer {
+    extern "C" fn height(_: *const u8, _: usize, _: u32, height: f32) -> Answer {
         let steps = Steps::uninit();
-        Answer { steps, height: t }
+        Answer { steps, height }
     }
     extern "C" fn strip(_: *const u8, _: usize, _: u32, _: *mut f32, _: usize) -> StripAnswer {
         let steps = Steps::uninit();
         StripAnswer { steps }
     }
-    extern "C" fn taps_height(_: *const f32, _: *const f32, _: u32, t: f32) -> Answer {
+    extern "C" fn taps_height(_: *const f32, _: *const f32, _: u32, height: f32) -> Answer {
         let steps = Steps::uninit();
-        Answer { steps, height: t }
+        Answer { steps, height }
     }
     Side {
         name: "nothing",
-        height,
-        strip,
+        height: [height; 14],
+        strip: [strip; 14],
         taps_height,
-    }
-}
-
-enum Work {
-    Heights { code: u32 },
-    Strip { code: u32, n: usize },
-    Taps(Taps),
-}
-
-impl Work {
-    /// The length of the strip; 1 for the single heights.
-    fn length(&self) -> usize {
-        match self {
-            Work::Strip { n, .. } => *n,
-            _ => 1,
-        }
-    }
-
-    /// The calls of one repetition.
-    fn calls(&self) -> usize {
-        match self {
-            Work::Strip { .. } => 1,
-            _ => SINGLE,
-        }
     }
 }
 
@@ -148,13 +143,23 @@ impl Work {
 #[repr(C, align(4096))]
 struct Data {
     program: Program,
+    taps: Taps,
     positions: [f32; SINGLE],
-    out: [f32; 8192],
+    room: [f32; 8192],
+    /// Where in the room the samples begin.
+    begin: usize,
 }
 
-/// The driver's loops, in which every side is called from the same instructions.
+#[derive(Clone, Copy)]
+enum Work {
+    Heights { code: usize },
+    Strip { code: usize, n: usize },
+    Taps,
+}
+
+/// The driver's loops: every side is called from the same instructions.
 #[inline(never)]
-fn heights(height: Height, program: &Program, code: u32, positions: &[f32], out: &mut [f32], times: usize) {
+fn heights(height: Height, program: &Program, code: u32, positions: &[f32], out: &mut [f32], times: u32) {
     for _ in 0..times {
         for (t, out) in positions.iter().zip(&mut *out) {
             *out = unsafe { height(program.0.as_ptr(), BLOCK, code, *t) }.height;
@@ -163,17 +168,233 @@ fn heights(height: Height, program: &Program, code: u32, positions: &[f32], out:
 }
 
 #[inline(never)]
-fn strips(strip: Strip, program: &Program, code: u32, out: &mut [f32], times: usize) -> StripAnswer {
-    let mut answer = || unsafe { strip(program.0.as_ptr(), BLOCK, code, out.as_mut_ptr(), out.len()) };
-    (1..times).for_each(|_| drop(answer()));
-    answer()
+fn strips(strip: Strip, program: &Program, code: u32, out: &mut [f32], times: u32) -> StripAnswer {
+    let mut last = StripAnswer { steps: Steps::uninit() };
+    for _ in 0..times {
+        last = unsafe { strip(program.0.as_ptr(), BLOCK, code, out.as_mut_ptr(), out.len()) };
+    }
+    last
 }
 
 #[inline(never)]
-fn trains(height: TapsHeight, taps: &Taps, positions: &[f32], out: &mut [f32], times: usize) {
+fn trains(height: TapsHeight, taps: &Taps, positions: &[f32], out: &mut [f32], times: u32) {
     for _ in 0..times {
         for (t, out) in positions.iter().zip(&mut *out) {
             *out = unsafe { height(taps.at.as_ptr(), taps.tall.as_ptr(), taps.used, *t) }.height;
         }
+    }
+}
+
+impl Work {
+    /// The length of the strip; 1 of the single heights.
+    fn length(self) -> usize {
+        match self {
+            Work::Strip { n, .. } => n,
+            _ => 1,
+        }
+    }
+
+    /// The calls of doing it once.
+    fn calls(self) -> usize {
+        match self {
+            Work::Strip { .. } => 1,
+            _ => SINGLE,
+        }
+    }
+
+    fn samples(self) -> usize {
+        self.length() * self.calls()
+    }
+
+    fn perform(self, side: &Side, data: &mut Data, times: u32) {
+        let out = &mut data.room[data.begin..][..self.samples()];
+        match self {
+            Work::Heights { code } => heights(side.height[code], &data.program, code as u32, &data.positions, out, times),
+            Work::Strip { code, .. } => drop(strips(side.strip[code], &data.program, code as u32, out, times)),
+            Work::Taps => trains(side.taps_height, &data.taps, &data.positions, out, times),
+        }
+    }
+
+    /// What the side computes.
+    fn answers(self, side: &Side, data: &mut Data) -> Vec<u32> {
+        data.room.fill(f32::NAN);
+        self.perform(side, data, 1);
+        data.room[data.begin..][..self.samples()].iter().map(|x| x.to_bits()).collect()
+    }
+}
+
+fn data(begin: usize) -> Box<Data> {
+    let mut program = block(&mut Random(7), &[], &[]);
+    // Both fades and levels are well inside, the waves on and swept, and the LFOs a sine without slew.
+    for (at, value) in [
+        (1, 128),
+        (8, 128),
+        (16, 1),
+        (18, 1),
+        (19, 1),
+        (25, 100),
+        (26, 200),
+        (33, 200),
+        (51, 0),
+    ] {
+        program.0[at] = value;
+    }
+    for at in [2, 9, 6, 13] {
+        program.0[at] = 0;
+    }
+    Box::new(Data {
+        program,
+        taps: Taps {
+            at: [0.1, 0.3, 0.5, 0.9],
+            tall: [1.0, 0.7, 0.5, 0.2],
+            used: 0,
+        },
+        positions: std::array::from_fn(|i| i as f32 / (SINGLE - 1) as f32),
+        room: [0.0; 8192],
+        begin,
+    })
+}
+
+/// Every figure: its row, its work, and the data that it is done on.
+fn figures(begin: usize, mut each: impl FnMut(&str, Work, &mut Data)) {
+    let mut data = data(begin);
+    let mut row = |name: String, code, data: &mut Data| {
+        each(&name, Work::Heights { code }, data);
+        LENGTHS.iter().for_each(|&n| each(&name, Work::Strip { code, n }, data));
+    };
+    for (code, name) in CODES.iter().enumerate() {
+        row(format!("{code}: {name}"), code, &mut data);
+    }
+    for slew in [0, SLEW] {
+        for (shape, name) in SHAPES.iter().enumerate() {
+            data.program.0[2] = shape as u8;
+            data.program.0[6] = slew;
+            row(format!("3: LFO 1, {name}, slew {slew}"), 3, &mut data);
+        }
+    }
+    for used in [1, 4] {
+        data.taps.used = used;
+        each(&format!("taps, {used} used"), Work::Taps, &mut data);
+    }
+}
+
+/// What the sides computed must agree, or the figures say nothing.
+fn assert_agreed(row: &str, work: Work, sides: &[Side], data: &mut Data) {
+    let first = work.answers(&sides[0], data);
+    for side in &sides[1..] {
+        assert!(
+            work.answers(side, data) == first,
+            "{row}, {}: {} and {} differ: run reference/library/run",
+            work.length(),
+            sides[0].name,
+            side.name
+        );
+    }
+}
+
+fn seconds(work: Work, side: &Side, data: &mut Data, times: u32) -> f64 {
+    let start = Instant::now();
+    work.perform(side, data, times);
+    start.elapsed().as_secs_f64() / f64::from(times)
+}
+
+/// The best time of each side, in seconds for a call.
+fn race(work: Work, sides: &[Side], data: &mut Data) -> Vec<f64> {
+    let mut times = |side| {
+        let mut n = 1;
+        while seconds(work, side, data, n) * f64::from(n) < MEASURED.as_secs_f64() {
+            n *= 2;
+        }
+        n
+    };
+    let times: Vec<u32> = sides.iter().map(&mut times).collect();
+    let mut best = vec![f64::INFINITY; sides.len()];
+    let start = Instant::now();
+    for round in 0..ROUNDS {
+        if round >= FEWEST && start.elapsed() > ENOUGH {
+            break;
+        }
+        for (i, side) in sides.iter().enumerate() {
+            // The side before has left its own traces in caches and predictors.
+            if times[i] > 1 {
+                work.perform(side, data, 1);
+            }
+            best[i] = best[i].min(seconds(work, side, data, times[i]));
+        }
+    }
+    best.into_iter().map(|time| time / work.calls() as f64).collect()
+}
+
+fn time(layout: usize) {
+    let sides = sides();
+    let begin = layout * 20;
+    figures(begin, |row, work, data| {
+        assert_agreed(row, work, &sides, data);
+        for (side, time) in sides.iter().zip(race(work, &sides, data)) {
+            println!("time\t{row}\t{}\t{}\t{time:e}", work.length(), side.name);
+        }
+    });
+    // How our strip's cost grows.
+    let mut data = data(begin);
+    for (shape, slew) in [(0, 0), (0, 1), (0, 255), (2, SLEW), (5, SLEW)] {
+        data.program.0[2] = shape as u8;
+        data.program.0[6] = slew;
+        for n in LENGTHS {
+            let time = race(Work::Strip { code: 3, n }, &sides[..1], &mut data)[0];
+            let answer = strips(sides[0].strip[3], &data.program, 3, &mut data.room[..n], 1);
+            let [_, steps] = unsafe { answer.steps.assume_init() };
+            println!("growth\t{}, slew {slew}\t{n}\t{steps}\t{time:e}", SHAPES[shape]);
+        }
+    }
+}
+
+/// Does the work deeper on the stack, by 80 bytes or so for each level.
+#[inline(never)]
+fn deeper(levels: usize, work: &mut dyn FnMut()) {
+    let room = [levels; 5];
+    black_box(&room);
+    if levels == 0 { work() } else { deeper(levels - 1, work) }
+    black_box(&room);
+}
+
+/// A request to callgrind, as valgrind.h makes it; outside of valgrind it does nothing.
+fn request(number: u64, text: Option<&CString>) {
+    let text = text.map_or(0, |text| text.as_ptr() as u64);
+    let words = [u64::from(u32::from_be_bytes(*b"CT\0\0")) + number, text, 0, 0, 0, 0];
+    unsafe {
+        asm!("rol rdi, 3", "rol rdi, 13", "rol rdi, 61", "rol rdi, 51", "xchg rbx, rbx",
+            in("rax") &words, inout("rdx") 0u64 => _);
+    }
+}
+
+fn count() {
+    const ZERO: u64 = 1;
+    const DUMP_AT: u64 = 3;
+    let mut sides = sides();
+    sides.push(nothing());
+    figures(0, |row, work, data| {
+        assert_agreed(row, work, &sides[..sides.len() - 1], data);
+        for side in &sides {
+            let name = format!("{row}\t{}\t{}\t{}", work.length(), side.name, work.calls());
+            let name = CString::new(name).expect("no NUL in a name");
+            request(ZERO, None);
+            work.perform(side, data, 1);
+            request(DUMP_AT, Some(&name));
+        }
+    });
+}
+
+pub fn run() {
+    let words: Vec<String> = std::env::args().skip(1).collect();
+    match (words[0].as_str(), &words[1..]) {
+        ("time", [layout]) => {
+            let layout = layout.parse().expect("the layout's number");
+            // A new thread's stack begins at the same place in a page each time; the first thread's doesn't.
+            let work = move || deeper(layout, &mut || time(layout));
+            std::thread::spawn(work).join().expect("the figures");
+        }
+        ("count", []) => count(),
+        ("report", files) => report::print(files),
+        _ => panic!("time LAYOUT, count, or report FILE .."),
     }
 }

@@ -1,29 +1,50 @@
-//! The reference as an object of its own, so that the driver can look into it no more than into the library. `run` compiles it at each level
-//! of optimisation. For a single height it reads the block; for a strip it builds its generator once and samples it at the strip's positions.
+//! The reference as objects of their own, so that the driver can look into it no more than into the library. For a single height it reads the
+//! block; for a strip it builds its generator once and samples it at the strip's positions. `run` compiles this file in three forms, since
+//! what else an object holds decides what the compiler makes of `Generator::at`:
+//!   called     one object for all functions: they share `at`, and call it, as the users of another crate do
+//!   inlined    an object for each function: `at` has one caller, and is inlined
+//!   known      an object for each function and code: the compiler knows the curve too, and may make a loop of vectors
+//! BENCH_SIDE is the form with its level of optimisation, and the code where BENCH_CODE is one; the cfg flags name the functions.
+#![allow(unused_imports)]
 
 mod calls;
 
 use crate::answers::{Taps, build};
+use crate::generator::Generator;
 use crate::stand_in::Program;
 use calls::{Answer, Steps, StripAnswer};
 
-fn answer(height: f32) -> Answer {
+const KNOWN: Option<&str> = option_env!("BENCH_CODE");
+
+/// The generator of the code, or of the one that is known.
+#[inline(always)]
+fn generator(block: *const u8, code: u32) -> Generator {
+    const CODE: usize = match KNOWN {
+        Some(digits) => match usize::from_str_radix(digits, 10) {
+            Ok(code) => code,
+            Err(_) => panic!("BENCH_CODE is not a number"),
+        },
+        None => 0,
+    };
+    let code = if KNOWN.is_some() { CODE } else { code as usize };
+    // The driver's block is a `Program`.
+    build(code, unsafe { &*block.cast::<Program>() })
+}
+
+#[cfg(height)]
+#[unsafe(export_name = concat!(env!("BENCH_SIDE"), "_height"))]
+unsafe extern "C" fn height(block: *const u8, _: usize, code: u32, t: f32) -> Answer {
     let steps = Steps::uninit();
+    let height = generator(block, code).at(t);
     Answer { steps, height }
 }
 
-/// The block is a `Program` of the driver's.
-#[unsafe(export_name = concat!("rust", env!("LEVEL"), "_height"))]
-unsafe extern "C" fn height(block: *const u8, _: usize, code: u32, t: f32) -> Answer {
-    let program = unsafe { &*block.cast::<Program>() };
-    answer(build(code as usize, program).at(t))
-}
-
-#[unsafe(export_name = concat!("rust", env!("LEVEL"), "_strip"))]
+#[cfg(strip)]
+#[unsafe(export_name = concat!(env!("BENCH_SIDE"), "_strip"))]
 unsafe extern "C" fn strip(block: *const u8, _: usize, code: u32, out: *mut f32, len: usize) -> StripAnswer {
-    let (program, out) = unsafe { (&*block.cast::<Program>(), std::slice::from_raw_parts_mut(out, len)) };
-    let generator = build(code as usize, program);
-    let last = (len - 1) as f32;
+    let out = unsafe { std::slice::from_raw_parts_mut(out, len) };
+    let generator = generator(block, code);
+    let last = (out.len() - 1) as f32;
     for (i, sample) in out.iter_mut().enumerate() {
         *sample = generator.at(i as f32 / last);
     }
@@ -31,11 +52,14 @@ unsafe extern "C" fn strip(block: *const u8, _: usize, code: u32, out: *mut f32,
     StripAnswer { steps }
 }
 
-#[unsafe(export_name = concat!("rust", env!("LEVEL"), "_taps_height"))]
+#[cfg(taps)]
+#[unsafe(export_name = concat!(env!("BENCH_SIDE"), "_taps_height"))]
 unsafe extern "C" fn taps_height(at: *const f32, tall: *const f32, used: u32, t: f32) -> Answer {
-    let (at, tall) = unsafe { (*at.cast::<[f32; 4]>(), *tall.cast::<[f32; 4]>()) };
-    answer(Taps { at, tall, used }.generator().at(t))
+    let (at, tall) = unsafe { (*at.cast(), *tall.cast()) };
+    let steps = Steps::uninit();
+    let height = Taps { at, tall, used }.generator().at(t);
+    Answer { steps, height }
 }
 
-/// What `reference/rust/build` makes the program of; this one is linked as an object.
+/// `reference/rust/build` calls it; an object of functions has nothing to run.
 pub fn run() {}

@@ -4,6 +4,7 @@ use mathlib.Core.List.{List, [], _∷_}
 use Prim.Native.Nat.{ℕ, zero, suc}
 use lib.ListN.{length}
 use lib.Ieee.{Float}
+use Rattle.lists.specs.Padded.{padded}
 use Rattle.exact.specs.Binary32.{bits, zero₃₂, one₃₂}
 use Rattle.settings.specs.declared.LfoShape.{LfoShape}
 use Rattle.settings.specs.declared.LfoShape.the-variants.{Sine, Triangle, Square, RampUp, RampDown, SampleAndHold, SampleAndGlide}
@@ -41,15 +42,9 @@ settingsList (AFilter f) = f .slope ∷ f .resonance ∷ f .span ∷ passNumber 
 settingsList (AnOscillator o) = flagOf (o .saw) ∷ flagOf (o .pulse) ∷ o .width ∷ o .sweep ∷ o .level ∷ []
 settingsList (ANoise n) = n .level ∷ []
 
--- The first n of a list, and 0 where it is shorter.
-unfoldable pub placesOf : ℕ → List Float → List Float
-placesOf zero xs = []
-placesOf (suc n) [] = zero₃₂ ∷ placesOf n []
-placesOf (suc n) (x ∷ xs) = x ∷ placesOf n xs
-
 -- A record of eight places and a count.
-unfoldable pub stored : List Float → Numbers
-stored xs = record { places = placesOf 8 xs; count = length xs }
+unfoldable pub storedSettings : List Float → Numbers
+storedSettings xs = record { places = padded zero₃₂ 8 xs; count = length xs }
 
 unfoldable pub settingsNumbers : Shape → Numbers
-settingsNumbers s = stored (settingsList s)
+settingsNumbers s = storedSettings (settingsList s)

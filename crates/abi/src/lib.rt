@@ -5,8 +5,8 @@ ghost use Prim.Native.Nat.{_≤_};
 ghost use Rattle.generator.specs.Generator.{scaleNumber, scaleValue};
 ghost use Rattle.generator.specs.Marks.{segmentNumber, kindNumber};
 ghost use Rattle.lists.specs.Written.{written};
-ghost use Rattle.abi.specs.Arrays.{leastOf, markPosition, markKind, gateStart, gateEnd, settingAt, marksUsed, gatesUsed, settingsUsed};
-ghost use Rattle.abi.specs.Numbers.{flagOf, shapeNumber, passNumber, stored, settingsNumbers};
+ghost use Rattle.abi.specs.Arrays.{markPosition, markKind, gateStart, gateEnd, settingAt, marksUsed, gatesUsed, settingsUsed};
+ghost use Rattle.abi.specs.Numbers.{flagOf, shapeNumber, passNumber, storedSettings, settingsNumbers};
 use generator::GATES_DRAWN;
 use generator::Gates;
 use generator::MAX_MARKS;
@@ -15,6 +15,7 @@ use generator::Marks;
 use generator::Scale;
 use generator::Segment;
 use generator::Shape;
+use lists::at_most;
 use settings::Envelope;
 use settings::Filter;
 use settings::Lfo;
@@ -185,7 +186,7 @@ fn oscillator_numbers(o: Oscillator) -> Numbers
 }
 
 fn one_number(x: f32) -> Numbers
-    ensures { λ r. ⌜ r ≡ stored (x ∷ []) ⌝ }
+    ensures { λ r. ⌜ r ≡ storedSettings (x ∷ []) ⌝ }
 {
     Numbers {
         places: [x, 0.0, 0.0, 0.0, 0.0, 0.0, 0.0, 0.0],
@@ -208,35 +209,25 @@ pub fn settings_numbers(shape: Shape) -> Numbers
 }
 
 // ---- into lent arrays: the first places are written, the others stay
-// A count that is never above the most.
-fn least(count: usize, most: usize) -> usize
-    ensures { λ r. ⌜ (r ≡ leastOf count most) × (r ≤ most) ⌝ }
-{
-    if count < most {
-        return count;
-    }
-    most
-}
-
 pub fn marks_used(marks: Marks) -> usize
     ensures { λ r. ⌜ (r ≡ marksUsed marks) × (r ≤ 6) ⌝ }
 {
-    least(marks.count, MAX_MARKS)
+    at_most(marks.count, MAX_MARKS)
 }
 
 pub fn gates_used(gates: Gates) -> usize
     ensures { λ r. ⌜ (r ≡ gatesUsed gates) × (r ≤ 4) ⌝ }
 {
-    least(gates.count, GATES_DRAWN)
+    at_most(gates.count, GATES_DRAWN)
 }
 
 pub fn settings_used(numbers: Numbers) -> usize
     ensures { λ r. ⌜ (r ≡ settingsUsed numbers) × (r ≤ 8) ⌝ }
 {
-    least(numbers.count, MAX_SETTINGS)
+    at_most(numbers.count, MAX_SETTINGS)
 }
 
-pub fn lay_mark_positions(marks: Marks, out: &mut [f32; MAX_MARKS])
+pub fn copy_mark_positions(marks: Marks, out: &mut [f32; MAX_MARKS])
     ensures { λ _. ⌜ now (out .exit) ≡ written (markPosition marks) (marksUsed marks) (now (out .entry)) ⌝ }
 {
     let count = marks_used(marks);
@@ -247,7 +238,7 @@ pub fn lay_mark_positions(marks: Marks, out: &mut [f32; MAX_MARKS])
     }
 }
 
-pub fn lay_mark_kinds(marks: Marks, out: &mut [u8; MAX_MARKS])
+pub fn copy_mark_kinds(marks: Marks, out: &mut [u8; MAX_MARKS])
     ensures { λ _. ⌜ now (out .exit) ≡ written (markKind marks) (marksUsed marks) (now (out .entry)) ⌝ }
 {
     let count = marks_used(marks);
@@ -260,7 +251,7 @@ pub fn lay_mark_kinds(marks: Marks, out: &mut [u8; MAX_MARKS])
     }
 }
 
-pub fn lay_gate_starts(gates: Gates, out: &mut [f32; GATES_DRAWN])
+pub fn copy_gate_starts(gates: Gates, out: &mut [f32; GATES_DRAWN])
     ensures { λ _. ⌜ now (out .exit) ≡ written (gateStart gates) (gatesUsed gates) (now (out .entry)) ⌝ }
 {
     let count = gates_used(gates);
@@ -271,7 +262,7 @@ pub fn lay_gate_starts(gates: Gates, out: &mut [f32; GATES_DRAWN])
     }
 }
 
-pub fn lay_gate_ends(gates: Gates, out: &mut [f32; GATES_DRAWN])
+pub fn copy_gate_ends(gates: Gates, out: &mut [f32; GATES_DRAWN])
     ensures { λ _. ⌜ now (out .exit) ≡ written (gateEnd gates) (gatesUsed gates) (now (out .entry)) ⌝ }
 {
     let count = gates_used(gates);
@@ -282,7 +273,7 @@ pub fn lay_gate_ends(gates: Gates, out: &mut [f32; GATES_DRAWN])
     }
 }
 
-pub fn lay_settings(numbers: Numbers, out: &mut [f32; MAX_SETTINGS])
+pub fn copy_settings(numbers: Numbers, out: &mut [f32; MAX_SETTINGS])
     ensures { λ _. ⌜ now (out .exit) ≡ written (settingAt numbers) (settingsUsed numbers) (now (out .entry)) ⌝ }
 {
     let count = settings_used(numbers);

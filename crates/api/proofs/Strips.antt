@@ -8,7 +8,7 @@ use lib.Ieee.{Float, nan}
 use borrow.Author.Tests.{eq-eqb}
 use Rattle.generator.specs.Generator.{generatorOf}
 use Rattle.generator.specs.Heights.{heightOf}
-use Rattle.strip.specs.Strip.{sampleOf, lengthFits, stripOf}
+use Rattle.strip.specs.Strip.{samplePosition, lengthFits, stripOf}
 use Rattle.strip.proofs.Samples.{sample-fits, strip-length, strip-at}
 use Rattle.codes.specs.declared.Code.{Code}
 use Rattle.codes.specs.declared.CodeRead.the-variants.{Known}
@@ -44,7 +44,7 @@ strip-answered block code before after r b e a = record { equation = e; strip = 
     own : (c : Code) → after ≡ stripOf (shapeOf c (byteAt block)) before → T (lengthFits (length before)) → (i : ℕ) → i < length before → Sampled c block after i
     own c f t i h =
         record {
-          height = heightOf (shapeOf c (byteAt block)) (sampleOf (length after) i);
-          holds = ap (λ (xs : List Float). getD xs i nan) f ∙ strip-at (shapeOf c (byteAt block)) before t i h ∙ ap (λ (n : ℕ). heightOf (shapeOf c (byteAt block)) (sampleOf n i) .height) (sym size);
-          promised = block-height c (byteAt block) b (sampleOf (length after) i) (sample-fits (length after) i);
+          height = heightOf (shapeOf c (byteAt block)) (samplePosition (length after) i);
+          holds = ap (λ (xs : List Float). getD xs i nan) f ∙ strip-at (shapeOf c (byteAt block)) before t i h ∙ ap (λ (n : ℕ). heightOf (shapeOf c (byteAt block)) (samplePosition n i) .height) (sym size);
+          promised = block-height c (byteAt block) b (samplePosition (length after) i) (sample-fits (length after) i);
         }

@@ -13,7 +13,7 @@ use Rattle.curve.specs.Curve.{Drawn}
 use Rattle.taps.specs.declared.Taps.{Taps}
 use Rattle.taps.specs.Formula.{usedOf, atOf, tallOf, tapsHeightOf}
 use Rattle.taps.specs.Exact.{tapsHeightℚ}
-use Rattle.strip.specs.Strip.{sampleOf, lengthFits}
+use Rattle.strip.specs.Strip.{samplePosition, lengthFits}
 use Rattle.codes.specs.declared.Code.{Code}
 use Rattle.codes.specs.declared.CodeRead.the-variants.{Known}
 use Rattle.block.specs.declared.StripAnswer.{StripAnswer}
@@ -27,7 +27,7 @@ use Rattle.block.specs.Promises.{CodePromised}
 pub record Sampled (c : Code) (block : List ℕ) (strip : List Float) (i : ℕ) : Type 0 where
   pub height : Height
   pub holds : getD strip i nan ≡ height .height
-  pub promised : CodePromised c (byteAt block) (sampleOf (length strip) i) height
+  pub promised : CodePromised c (byteAt block) (samplePosition (length strip) i) height
 
 -- The answer and what the strip holds afterwards are those of the formulas, refusals included; a strip keeps its length. A block of 242 bytes, a known code and a length from 2 to 4,096 are given
 -- every sample.

@@ -2,20 +2,16 @@
 use mathlib.Core.Path.{_≡_, refl, sym, ap, _∙_}
 use mathlib.Core.Bool.{Bool, true, false}
 use mathlib.Core.List.{List, _∷_}
-use Prim.Native.Nat.{ℕ, zero, suc, _+_, _≤_, _<_}
+use Prim.Native.Nat.{ℕ, zero, suc, _+_, _≤_, _<_, min}
 use native.Mathlib.Nat.{le-antisymm}
 use native.Mathlib.Numerals.{add-one}
 use native.Mathlib.Omega.{arith}
 use lib.ListN.{take, getD}
-use lib.Seq.{take-all, slice, slice-empty, slice-cons}
-use Rattle.generator.specs.Gates.{closed}
+use lib.Seq.{slice, slice-empty, slice-cons}
+use Rattle.generator.specs.Gates.{closed, gateAt}
 use Rattle.generator.specs.declared.Gate.{Gate}
 use Rattle.generator.specs.declared.Gates.{Gates}
-use Rattle.bars.specs.Bars.{touches, merged, joinedFrom, joined, noBars, pushedBar, pushedBars, gateAt, fourGates, usedGates, barsOf}
-
--- Four places hold no more than four gates.
-pub four-used : (gates : Gates) (n : ℕ) → 4 ≤ n → take 4 (fourGates gates) ≡ take n (fourGates gates)
-four-used gates n h = sym (take-all n (fourGates gates) h)
+use Rattle.bars.specs.Bars.{touches, merged, joinedFrom, joined, noBars, pushedBar, pushedBars, fourGates, barsOf}
 
 four-at : (gates : Gates) (i : ℕ) → i < 4 → getD (fourGates gates) i closed ≡ gateAt gates i
 four-at gates zero h = refl
@@ -30,14 +26,14 @@ rest gates count i most h = slice-cons i count (fourGates gates) closed h most �
 
 module _ (gates : Gates) (count : ℕ) (most : count ≤ 4) where
   -- With no gate there are no bars, and otherwise the first gate is open.
-  module _ (none : Gates) (start : none ≡ noBars) (all : take count (fourGates gates) ≡ usedGates gates) where
+  module _ (none : Gates) (start : none ≡ noBars) (all : count ≡ min (gates .count) 4) where
     pub join-none : count ≡ 0 → none ≡ barsOf gates
     unfolding barsOf joined pushedBars
-    join-none h = start ∙ ap (λ (gs : List Gate). pushedBars noBars (joined gs)) (rw h at all)
+    join-none h = start ∙ ap (λ (n : ℕ). pushedBars noBars (joined (take n (fourGates gates)))) (sym h ∙ all)
 
     pub join-first : 0 < count → pushedBars none (joinedFrom (gateAt gates 0) (slice 1 count (fourGates gates))) ≡ barsOf gates
     unfolding barsOf joined
-    join-first h = rw start (ap (λ (gs : List Gate). pushedBars noBars (joined gs)) (sym (rest gates count 0 most h) ∙ all))
+    join-first h = rw start (ap (λ (gs : List Gate). pushedBars noBars (joined gs)) (sym (rest gates count 0 most h) ∙ ap (λ (n : ℕ). take n (fourGates gates)) all))
 
   -- The next gate, i: one that is touched goes on with the open one, and any other ends it. What is to be returned stays the same.
   module _ (m : Gates) {n whole : Gates} (bar : Gate) {next : Gate} {t : Bool} (i : ℕ) (h : i < count) (touch : t ≡ touches bar (gateAt gates i)) (left : pushedBars m (joinedFrom bar (slice i count (fourGates gates))) ≡ whole) where

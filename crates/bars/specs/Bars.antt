@@ -1,11 +1,11 @@
 -- THE BARS, GATES JOINED WHERE THEY TOUCH: docs/SPECIFICATION.md, "Marks, rest, scale, anchor, gates". Definitions only.
 use mathlib.Core.Bool.{Bool, cond}
 use mathlib.Core.List.{List, [], _∷_}
-use Prim.Native.Nat.{ℕ, _+_}
+use Prim.Native.Nat.{ℕ, _+_, min}
 use lib.Dec.{ltb}
-use lib.ListN.{getD, set, take}
-use lib.Ieee.{nan, eq}
-use Rattle.generator.specs.Gates.{closed}
+use lib.ListN.{set, take}
+use lib.Ieee.{eq}
+use Rattle.generator.specs.Gates.{closed, gateAt}
 use Rattle.generator.specs.declared.Gate.{Gate}
 use Rattle.generator.specs.declared.Gates.{Gates}
 
@@ -41,17 +41,13 @@ unfoldable pub pushedBars : Gates → List Gate → Gates
 pushedBars m [] = m
 pushedBars m (a ∷ bs) = pushedBars (pushedBar m a) bs
 
--- Gate number i: past the four places, which no use reaches, a gate of NaNs.
-abbrev pub gateAt : Gates → ℕ → Gate
-gateAt gates i = getD (gates .places) i (record { start = nan; end = nan })
-
 -- All four places, in their order.
 abbrev pub fourGates : Gates → List Gate
 fourGates gates = gateAt gates 0 ∷ gateAt gates 1 ∷ gateAt gates 2 ∷ gateAt gates 3 ∷ []
 
--- The gates that are used. There are four places, so that a count above four uses all four.
+-- The gates that are used: a count above four is four.
 abbrev pub usedGates : Gates → List Gate
-usedGates gates = take (gates .count) (fourGates gates)
+usedGates gates = take (min (gates .count) 4) (fourGates gates)
 
 -- The record of the bars of the gates that are used.
 unfoldable pub barsOf : Gates → Gates

@@ -1,27 +1,16 @@
 // The bars of the arpeggiator: gates that touch, joined.
 ghost use mathlib.Core.Path.{_≡_};
-ghost use Prim.Native.Nat.{_≤_};
-ghost use Rattle.bars.specs.Bars.{touches, fourGates, usedGates, noBars, pushedBar, barsOf};
-ghost use lib.ListN.{take};
+ghost use Rattle.bars.specs.Bars.{touches, noBars, pushedBar, barsOf};
 use generator::GATES_DRAWN;
 use generator::Gate;
 use generator::Gates;
+use lists::at_most;
 
 // Whether a gate ends where the next one starts.
 fn touch(a: Gate, b: Gate) -> bool
     ensures { λ r. ⌜ r ≡ touches a b ⌝ }
 {
     a.end == b.start
-}
-
-// How many gates are used: never more than there are places.
-fn used(gates: Gates) -> usize
-    ensures { λ r. ⌜ (r ≤ 4) × (take r (fourGates gates) ≡ usedGates gates) ⌝ }
-{
-    if gates.count < GATES_DRAWN {
-        return gates.count;
-    }
-    GATES_DRAWN
 }
 
 fn no_bars() -> Gates
@@ -55,7 +44,7 @@ fn push_bar(bars: Gates, bar: Gate) -> Gates
 pub fn bars(gates: Gates) -> Gates
     ensures { λ r. ⌜ r ≡ barsOf gates ⌝ }
 {
-    let count = used(gates);
+    let count = at_most(gates.count, GATES_DRAWN);
     if count == 0 {
         return no_bars();
     }

@@ -11,8 +11,8 @@ use borrow.Author.Tests.{ne-eqb}
 use Rattle.exact.specs.Binary32.{zero₃₂}
 use Rattle.settings.specs.Settings.{byteOf, lfoOf}
 use Rattle.lfo.proofs.Steps.{slew-above}
-use Rattle.generator.specs.Heights.{heightOf, slewed, Promised}
-use Rattle.generator.specs.Heights as shape
+use Rattle.generator.specs.Heights.{heightOf}
+use Rattle.generator.proofs.Promised.{shapeBound, slewed, Promised}
 use Rattle.generator.proofs.EveryShape.{ShapeRange, every-shape}
 use Rattle.generator.proofs.EveryBlock.{envelope-shape-range, lfo-shape-range, fade-shape-range, low-pass-shape-range, high-pass-shape-range, oscillator-one-shape-range, oscillator-two-shape-range, noise-shape-range}
 use Rattle.codes.specs.declared.Code.{Code}
@@ -61,8 +61,8 @@ code-slewed HighPass b h = refl
 code-slewed (Oscillator id) b h = refl
 code-slewed Noise b h = refl
 
-code-bound : (c : Code) (b : ℕ → ℕ) → ((n : ℕ) → b n < 256) → shape.boundOf (shapeOf c b) ≡ boundOf c b
-unfolding shape.boundOf shapeOf lfoAt lfoOf lfoBound boundOf
+code-bound : (c : Code) (b : ℕ → ℕ) → ((n : ℕ) → b n < 256) → shapeBound (shapeOf c b) ≡ boundOf c b
+unfolding shapeBound shapeOf lfoAt lfoOf lfoBound boundOf
 code-bound (Envelope id) b h = refl
 code-bound (Lfo id) b h = simp (slew-off (b (lfoFirst id + 4)) (h (lfoFirst id + 4)))
 code-bound (LfoUnipolar id) b h = simp (slew-off (b (lfoFirst id + 4)) (h (lfoFirst id + 4)))

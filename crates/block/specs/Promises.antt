@@ -11,7 +11,7 @@ use Rattle.curve.specs.declared.Height.{Height}
 use Rattle.curve.specs.Curve.{Drawn}
 use Rattle.settings.specs.Settings.{isOn}
 use Rattle.lfo.specs.Steps.{Steps}
-use Rattle.generator.specs.Heights.{heightℚ, phaseOf}
+use Rattle.generator.specs.Heights.{heightℚ, walkPhase}
 use Rattle.codes.specs.declared.Code.{Code}
 use Rattle.codes.specs.declared.Code.the-variants.{Envelope, Lfo, LfoUnipolar, Fade, LowPass, HighPass, Oscillator, Noise}
 use Rattle.codes.specs.declared.CodeRead.the-variants.{Known}
@@ -51,7 +51,7 @@ boundOf Noise b = ratio 1 262144
 -- DEMAND 3 of a code's height h: a number from 0 to 1, no further than the code's bound from the exact height; its steps are the walk's where it is walked, else 0.
 pub record CodePromised (c : Code) (b : ℕ → ℕ) (t : Float) (h : Height) : Type 0 where
   pub drawn : Drawn (h .height) (heightℚ (shapeOf c b) t) (boundOf c b)
-  pub walked : T (slewedCode c b) → Steps (phaseOf (shapeOf c b) t) (h .steps)
+  pub walked : T (slewedCode c b) → Steps (walkPhase (shapeOf c b) t) (h .steps)
   pub none : T (not (slewedCode c b)) → h .steps ≡ 0
 
 -- ---- of a block and a code byte

@@ -8,7 +8,7 @@ use Rattle.lists.proofs.Rows.{allPass}
 use Rattle.settings.specs.Settings.{byteOf, totalOf, firstOf, secondOf, thirdOf, envelopeOf}
 use Rattle.generator.specs.declared.Shape.the-variants.{Envelope as AnEnvelope}
 use Rattle.generator.specs.Marks.{segmentNumber, envelopeMarks}
-use Rattle.strip.specs.Strip.{sampleOf}
+use Rattle.strip.specs.Strip.{samplePosition}
 use Rattle.lists.specs.Written.{written}
 use Rattle.captions.specs.Captions.{startedBy, segmentFrom, lastSegment, captionOf, captionAt, captionsOf}
 
@@ -39,5 +39,5 @@ rows =
     ∷ []
 
 captions-known : T (allPass captioned rows)
-unfolding allPass captioned same rows captionsOf captionAt captionOf lastSegment segmentFrom startedBy segmentNumber envelopeMarks sampleOf written envelopeOf thirdOf secondOf firstOf totalOf byteOf ofBits ofInt add div lt le eq
+unfolding allPass captioned same rows captionsOf captionAt captionOf lastSegment segmentFrom startedBy segmentNumber envelopeMarks samplePosition written envelopeOf thirdOf secondOf firstOf totalOf byteOf ofBits ofInt add div lt le eq
 captions-known = tt

@@ -10,7 +10,7 @@ use Rattle.exact.specs.Binary32.{zero₃₂}
 use Rattle.settings.specs.declared.Envelope.{Envelope}
 use Rattle.generator.specs.declared.Mark.{Mark}
 use Rattle.generator.specs.Marks.{segmentNumber, envelopeMarks}
-use Rattle.strip.specs.Strip.{partOf, sampleOf}
+use Rattle.strip.specs.Strip.{partOf, samplePosition}
 use Rattle.captions.specs.Captions.{startedBy, segmentFrom, lastSegment, captionOf}
 
 pub by-ends : (e : Envelope) (p : Float) → lastSegment (envelopeMarks e) p ≡ cond (le (e .third) p) 3 (cond (le (e .second) p) 2 (cond (le (e .first) p) 1 0))
@@ -27,7 +27,7 @@ module _ (ms : List Mark) (i last : ℕ) where
   caption-first h = simp (eq-eqb i 0 h)
 
   pub caption-later : (p : Float) {r : ℕ} → (i ≡ 0 → ⊥) → p ≡ partOf i last → r ≡ lastSegment ms p → r ≡ captionOf ms (last + 1) i
-  unfolding captionOf sampleOf
+  unfolding captionOf samplePosition
   caption-later p h a b =
       let n : last + 1 - 1 ≡ last = omega arith in
       b ∙ simp (ne-eqb i 0 h, n, a)

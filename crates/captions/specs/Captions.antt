@@ -12,7 +12,7 @@ use Rattle.generator.specs.declared.MarkKind.{MarkKind}
 use Rattle.generator.specs.declared.MarkKind.the-variants.{Segment as ASegment, Corner, Cycle, Tap, Width, Sweep}
 use Rattle.generator.specs.declared.Mark.{Mark}
 use Rattle.generator.specs.Marks.{segmentNumber, envelopeMarks}
-use Rattle.strip.specs.Strip.{sampleOf, lengthFits}
+use Rattle.strip.specs.Strip.{samplePosition, lengthFits}
 use Rattle.lists.specs.Written.{written}
 use Rattle.captions.specs.declared.Captioned.{Captioned}
 use Rattle.captions.specs.declared.Captioned.the-variants.{Written, WrongLength}
@@ -37,7 +37,7 @@ lastSegment ms p = segmentFrom (segmentNumber Attack) ms p
 
 -- C2, which wins over C1: sample 0 is the attack. Any other of n samples goes by C1.
 unfoldable pub captionOf : List Mark → ℕ → ℕ → ℕ
-captionOf ms n i = cond (eqb i 0) (segmentNumber Attack) (lastSegment ms (sampleOf n i))
+captionOf ms n i = cond (eqb i 0) (segmentNumber Attack) (lastSegment ms (samplePosition n i))
 
 -- The caption of a sample that has none.
 abbrev pub noCaption : ℕ

@@ -3,12 +3,12 @@ use mathlib.Core.Path.{_≡_, refl}
 use mathlib.Core.List.{[], _∷_}
 use Prim.Native.Nat.{ℕ, _+_}
 use Rattle.text.specs.Text.{ascii}
-use Rattle.text.specs.Words.{firstWord, pastBar, wordOf, placeOf}
+use Rattle.text.specs.Words.{firstWord, pastBar, wordOf, indexOf}
 use Rattle.text.specs.Spelled.{glyphOf, digitsOf, placesFrom, decimalOf}
 use Rattle.labels.specs.Names.{byteName}
 use Rattle.comparison.specs.Changes.{changeText, changesText}
 
 -- Bytes that grow by 7 give the line of each.
 line : changesText (59 ∷ []) (λ (n : ℕ). n) (λ (n : ℕ). n + 7) ≡ ascii "                            decay curve 59 -> 66\n"
-unfolding changesText changeText byteName wordOf firstWord pastBar placeOf decimalOf digitsOf placesFrom glyphOf
+unfolding changesText changeText byteName wordOf firstWord pastBar indexOf decimalOf digitsOf placesFrom glyphOf
 line = refl

@@ -18,7 +18,7 @@ use Rattle.codes.specs.Bytes.{byteAt, blockLength}
 use Rattle.block.specs.Shapes.{shapeOf}
 use Rattle.block.specs.Refusals.{chosenBy, chosenOf}
 use Rattle.comparison.specs.declared.Largest.{Largest as ALargest}
-use Rattle.comparison.specs.Largest.{samples, largestOf}
+use Rattle.comparison.specs.Largest.{comparedSamples, largestOf}
 
 pub known-chosen : (block : List ℕ) (n : ℕ) (c : Code) (r : Chosen) → length block ≡ blockLength → Known c ≡ codeOf n → r ≡ chosenOf block n → r ≡ AGenerator (generatorOf (shapeOf c (byteAt block)))
 unfolding chosenOf chosenBy
@@ -31,6 +31,6 @@ pub not-refused : (g : Generator) (x : Refusal) (r : Chosen) → r ≡ AGenerato
 not-refused g x r e f = let z : _≡_ {A = ℕ} 0 1 = cc in omega arith
 
 -- The largest difference of the generators of two shapes is that of the shapes.
-pub known-largest : (s t : Shape) (g h : Generator) (l : ALargest) → g ≡ generatorOf s → h ≡ generatorOf t → l ≡ largestOf (g .shape) (h .shape) samples → l ≡ largestOf s t samples
+pub known-largest : (s t : Shape) (g h : Generator) (l : ALargest) → g ≡ generatorOf s → h ≡ generatorOf t → l ≡ largestOf (g .shape) (h .shape) comparedSamples → l ≡ largestOf s t comparedSamples
 unfolding generatorOf
 known-largest s t g h l e f k = rw (e, f) at k

@@ -16,17 +16,17 @@ use Rattle.rows.specs.Rows.{ninePlaces}
 use Rattle.labels.specs.Names.{titleOf}
 use Rattle.comparison.specs.Changes.{sameBytes, changesText}
 use Rattle.comparison.specs.declared.Largest.{Largest as ALargest}
-use Rattle.comparison.specs.Largest.{samples, placeOf, largestOf}
+use Rattle.comparison.specs.Largest.{comparedSamples, positionAt, largestOf}
 
 -- ---- a generator
 -- How far the old curve and the new are apart, and where.
 unfoldable pub largestText : ALargest → List ℕ
-largestText l = ascii "different  largest difference " ++ ninePlaces (l .size) ++ ascii " at " ++ ninePlaces (placeOf (l .index)) ++ ascii "\n"
+largestText l = ascii "different  largest difference " ++ ninePlaces (l .size) ++ ascii " at " ++ ninePlaces (positionAt (l .index)) ++ ascii "\n"
 
 -- Its name, and whether all bytes that it reads are the same; if not, how far apart the curves are, and a line for each byte that differs.
 unfoldable pub generatorText : Code → (ℕ → ℕ) → (ℕ → ℕ) → List ℕ
 generatorText c a b =
-    titleOf c ++ cond (sameBytes (bytesOf c) a b) (ascii "same\n") (largestText (largestOf (shapeOf c a) (shapeOf c b) samples) ++ changesText (bytesOf c) a b)
+    titleOf c ++ cond (sameBytes (bytesOf c) a b) (ascii "same\n") (largestText (largestOf (shapeOf c a) (shapeOf c b) comparedSamples) ++ changesText (bytesOf c) a b)
 
 unfoldable pub codeText : CodeRead → (ℕ → ℕ) → (ℕ → ℕ) → List ℕ
 codeText (Known c) a b = generatorText c a b

@@ -3,22 +3,22 @@ use Prim.Native.Nat.{ℕ}
 use lib.Dec.{T}
 use lib.Ieee.{Float, binary32, ofBits, fits}
 use lib.Ieee.Scale.{finite}
-use Rattle.exact.specs.Fraction.{Fraction, ratio, unitℚ}
+use Rattle.exact.specs.Fraction.{Fraction, ratio, clampUnitℚ}
 use Rattle.exact.specs.Value.{value, Equal, Within}
 use Rattle.exact.proofs.Defined.{value-defined}
 use Rattle.exact.proofs.Order.{equal-sym, within-equal-left}
 use Rattle.exact.proofs.Lipschitz.{unit-within, unit-value}
 use Rattle.math.specs.Formulas.{clampOf}
 use Rattle.math.proofs.Nan.{not-nan, finite-number}
-use Rattle.curve.specs.Curve.{unitOf, drawnOf, Drawn}
+use Rattle.curve.specs.Curve.{clampUnitOf, drawnOf, Drawn}
 use Rattle.curve.proofs.Positions.{unit-level}
 
 -- the float clamp is the exact one
-unit-is : (x : Float) → T (finite x) → Equal (value (unitOf x)) (unitℚ (value x))
+unit-is : (x : Float) → T (finite x) → Equal (value (clampUnitOf x)) (clampUnitℚ (value x))
 unfolding clampOf ofBits
 unit-is x h = unit-value x h
 
-pub drawn-near : (x : Float) (X : Fraction) (r s : ℕ) → T (fits binary32 x) → Within (value x) X (ratio r s) → Drawn (drawnOf x .height) (unitℚ X) (ratio r s)
+pub drawn-near : (x : Float) (X : Fraction) (r s : ℕ) → T (fits binary32 x) → Within (value x) X (ratio r s) → Drawn (drawnOf x .height) (clampUnitℚ X) (ratio r s)
 unfolding drawnOf
 drawn-near x X r s f h =
     let t = value-defined x .0 (h .left) in

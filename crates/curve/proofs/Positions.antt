@@ -6,7 +6,7 @@ use lib.Ieee.Scale.{finite}
 use Rattle.exact.specs.Binary32.{zero₃₂, one₃₂}
 use Rattle.exact.proofs.Order.{le-value, nlt-at-most}
 use Rattle.math.specs.Formulas.{clampOf}
-use Rattle.curve.specs.Curve.{unitOf, positionOf}
+use Rattle.curve.specs.Curve.{clampUnitOf, positionOf}
 
 -- a float of binary32 that is a number from 0 to 1
 pub record Level (x : Float) : Type 0 where
@@ -35,7 +35,7 @@ inside (fin s m e) f n a b =
       to = le-value (fin s m e) one₃₂ tt tt .1 (nlt-at-most one₃₂ (fin s m e) tt tt b .le);
     }
 
-pub unit-level : (x : Float) → T (fits binary32 x) → T (not (isNan x)) → Level (unitOf x)
+pub unit-level : (x : Float) → T (fits binary32 x) → T (not (isNan x)) → Level (clampUnitOf x)
 unfolding clampOf
 unit-level x f n = go (lt x zero₃₂) (lt one₃₂ x) (λ a b. inside x f n a b)
   where
@@ -48,7 +48,7 @@ pub position-level : (t : Float) → T (fits binary32 t) → Level (positionOf t
 unfolding positionOf
 position-level t f = go (isNan t) (unit-level t f)
   where
-    go : (b : Bool) → (T (not b) → Level (unitOf t)) → Level (cond b zero₃₂ (unitOf t))
+    go : (b : Bool) → (T (not b) → Level (clampUnitOf t)) → Level (cond b zero₃₂ (clampUnitOf t))
     go true k = zero-level
     go false k = k tt
 

@@ -9,16 +9,16 @@ use Rattle.math.specs.Formulas.{clampOf}
 use Rattle.curve.specs.declared.Height.{Height}
 
 -- A clamp to 0..1.
-abbrev pub unitOf : Float → Float
-unitOf x = clampOf zero₃₂ one₃₂ x
+abbrev pub clampUnitOf : Float → Float
+clampUnitOf x = clampOf zero₃₂ one₃₂ x
 
 -- A NaN is position 0; all else is clamped to 0..1.
 unfoldable pub positionOf : Float → Float
-positionOf t = cond (isNan t) zero₃₂ (unitOf t)
+positionOf t = cond (isNan t) zero₃₂ (clampUnitOf t)
 
 -- The height of a curve that takes no steps: its level, clamped to 0..1.
 unfoldable pub drawnOf : Float → Height
-drawnOf x = record { height = unitOf x; steps = 0 }
+drawnOf x = record { height = clampUnitOf x; steps = 0 }
 
 -- DEMAND 3 of a height h and its exact height X: h is a number from 0 to 1, X is a number, and the two differ by at most q.
 pub record Drawn (h : Float) (X q : Fraction) : Type 0 where

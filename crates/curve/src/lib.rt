@@ -3,7 +3,7 @@ ghost use mathlib.Core.Path.{_≡_};
 ghost use mathlib.Core.Bool.{cond};
 ghost use lib.Ieee.{lt};
 ghost use Rattle.exact.specs.Binary32.{zero₃₂, one₃₂};
-ghost use Rattle.curve.specs.Curve.{positionOf, unitOf, drawnOf};
+ghost use Rattle.curve.specs.Curve.{positionOf, clampUnitOf, drawnOf};
 
 // A height, and how many steps its walk took: none but for a slewed LFO.
 pub struct Height {
@@ -35,8 +35,8 @@ fn lowered(x: f32) -> f32
 }
 
 // A clamp to 0..1: raised first and then lowered, which is an instruction each.
-pub fn unit(x: f32) -> f32
-    ensures { λ r. ⌜ r ≡ unitOf x ⌝ }
+pub fn clamp_unit(x: f32) -> f32
+    ensures { λ r. ⌜ r ≡ clampUnitOf x ⌝ }
 {
     lowered(raised(x))
 }
@@ -48,7 +48,7 @@ pub fn position(t: f32) -> f32
     if t != t {
         return LEFT;
     }
-    unit(t)
+    clamp_unit(t)
 }
 
 // The level clamped to 0..1, as a height that took no steps.
@@ -56,7 +56,7 @@ pub fn drawn(level: f32) -> Height
     ensures { λ r. ⌜ r ≡ drawnOf level ⌝ }
 {
     Height {
-        height: unit(level),
+        height: clamp_unit(level),
         steps: 0,
     }
 }

@@ -11,7 +11,7 @@ use lib.Dec.{T, lit<, lit≤}
 use lib.Ieee.{Float, binary32, ofBits, fits, le, lt}
 use lib.Ieee.Fits.{div-fits, cond-fits}
 use lib.Ieee.Scale.{finite}
-use Rattle.exact.specs.Fraction.{Fraction, Defined, ratio, whole, unitℚ, _-ℚ_, _*ℚ_, _/ℚ_, _≤ℚ_}
+use Rattle.exact.specs.Fraction.{Fraction, Defined, ratio, whole, clampUnitℚ, _-ℚ_, _*ℚ_, _/ℚ_, _≤ℚ_}
 use Rattle.exact.specs.Value.{value}
 use Rattle.exact.specs.Binary32.{_⊘_, bits, zero₃₂, quarter₃₂, one₃₂}
 use Rattle.exact.proofs.Close.{ring}
@@ -24,7 +24,7 @@ use Rattle.exact.proofs.Analyser.{Bound, Expr, var, constant, plus, minus, time
 use Rattle.exact.proofs.Soundness.{plainly}
 use Rattle.exact.proofs.Inputs.{range, input, one, one-input, two, two-inputs, covers, concludes, concluded}
 use Rattle.math.specs.Formulas.{clampOf}
-use Rattle.curve.specs.Curve.{unitOf}
+use Rattle.curve.specs.Curve.{clampUnitOf}
 use Rattle.settings.proofs.Ranges.{BendRange}
 use Rattle.envelope.specs.Formula.{denominatorOf, bentUnit, bentOf}
 use Rattle.envelope.specs.Exact.{denominatorℚ, bentℚ}
@@ -230,19 +230,19 @@ bent-near u k X h r =
     f : T (finite k)
     f = between-finite quarter₃₂ k (bits 0x4080_0000) tt tt (r .from) (r .to)
 
-    c : Approximates binary32 (unitOf u) (unitℚ X) divideBound
+    c : Approximates binary32 (clampUnitOf u) (clampUnitℚ X) divideBound
     c = concluded binary32 (one u) (one X) (one divideBound) (one-input binary32 u X divideBound h) (clamped (var 0)) (plainly binary32 (one X) (clamped (var 0)) tt) divideBound clamp-ok
 
-    half : (b : Bool) → Half b k → Approximates binary32 (bentUnit (unitOf u) k) (unitℚ X /ℚ denominatorℚ (unitℚ X) (value k)) bentBound
-    half b i = half-near b (unitOf u) k (unitℚ X) c (zero-at-most-unit X (h .defined) .le) (unit-at-most-one X (h .defined) .le) i
+    half : (b : Bool) → Half b k → Approximates binary32 (bentUnit (clampUnitOf u) k) (clampUnitℚ X /ℚ denominatorℚ (clampUnitℚ X) (value k)) bentBound
+    half b i = half-near b (clampUnitOf u) k (clampUnitℚ X) c (zero-at-most-unit X (h .defined) .le) (unit-at-most-one X (h .defined) .le) i
 
-    go : (b : Bool) → (T b → T (le k one₃₂)) → (T (not b) → T (le one₃₂ k)) → Approximates binary32 (bentUnit (unitOf u) k) (unitℚ X /ℚ denominatorℚ (unitℚ X) (value k)) bentBound
+    go : (b : Bool) → (T b → T (le k one₃₂)) → (T (not b) → T (le one₃₂ k)) → Approximates binary32 (bentUnit (clampUnitOf u) k) (clampUnitℚ X /ℚ denominatorℚ (clampUnitℚ X) (value k)) bentBound
     go true i j = half true (record { holds = r .holds; from = r .from; to = i tt })
     go false i j = half false (record { holds = r .holds; from = j tt; to = r .to })
 
 pub bent-fits : (u k : Float) → T (fits binary32 u) → T (fits binary32 (bentOf u k))
 unfolding bentOf bentUnit
 bent-fits u k h =
-    let v = unitOf u in
+    let v = clampUnitOf u in
     let d = denominatorOf v k in
     cond-fits binary32 (le d zero₃₂) v (v ⊘ d) (unit-fits u h) (div-fits binary32 v d)

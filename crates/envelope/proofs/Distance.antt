@@ -20,8 +20,8 @@ use Rattle.curve.proofs.Clamped.{drawn-near}
 use Rattle.curve.proofs.LevelInput.{unit, level-input}
 use Rattle.settings.specs.declared.Envelope.{Envelope}
 use Rattle.settings.proofs.Ranges.{EnvelopeRange}
-use Rattle.envelope.specs.Formula.{divideOf, bentOf, attackOf, decayOf, sustainOf, releaseOf, levelOf, heightOf}
-use Rattle.envelope.specs.Exact.{divideℚ, bentℚ, attackℚ, decayℚ, sustainℚ, releaseℚ, levelℚ, heightℚ}
+use Rattle.envelope.specs.Formula.{divideOf, bentOf, attackOf, decayOf, sustainOf, releaseOf, envelopeLevelOf, envelopeHeightOf}
+use Rattle.envelope.specs.Exact.{divideℚ, bentℚ, attackℚ, decayℚ, sustainℚ, releaseℚ, envelopeLevelℚ, envelopeHeightℚ}
 use Rattle.envelope.proofs.DivideError.{End, end-finite, Stretch, divideBound, divide-near, divide-fits}
 use Rattle.envelope.proofs.BendError.{bentBound, bent-near, bent-fits}
 use Rattle.envelope.proofs.Ends.{level-end, zero-end, one-end, first-end, second-end, third-end}
@@ -103,8 +103,8 @@ release-near e t r s =
     }
 
 -- ---- EVERY POSITION: from 0 to 1, in the first stretch whose end it is below, or in the release
-level-near : (e : Envelope) (t : Float) → EnvelopeRange e → Level t → LevelNear (levelOf e t) (levelℚ e (value t))
-unfolding levelOf levelℚ
+level-near : (e : Envelope) (t : Float) → EnvelopeRange e → Level t → LevelNear (envelopeLevelOf e t) (envelopeLevelℚ e (value t))
+unfolding envelopeLevelOf envelopeLevelℚ
 level-near e t r h =
     rw (← lt-value t (e .first) ft f₁, ← lt-value t (e .second) ft f₂, ← lt-value t (e .third) ft f₃)
     (go (lt t (e .first)) (lt t (e .second)) (lt t (e .third))
@@ -137,13 +137,13 @@ level-near e t r h =
     go false false false i j k l = l tt
 
 -- ---- THE THEOREM
-pub envelope-drawn : (e : Envelope) → EnvelopeRange e → (t : Float) → T (fits binary32 t) → Drawn (heightOf e t .height) (heightℚ e t) (ratio 1 131072)
-unfolding heightOf drawnOf heightℚ
+pub envelope-drawn : (e : Envelope) → EnvelopeRange e → (t : Float) → T (fits binary32 t) → Drawn (envelopeHeightOf e t .height) (envelopeHeightℚ e t) (ratio 1 131072)
+unfolding envelopeHeightOf drawnOf envelopeHeightℚ
 envelope-drawn e r t f =
     let p = positionOf t in
     let n = level-near e p r (position-level t f) in
-    drawn-near (levelOf e p) (levelℚ e (value p)) 1 131072 (n .holds) (n .within)
+    drawn-near (envelopeLevelOf e p) (envelopeLevelℚ e (value p)) 1 131072 (n .holds) (n .within)
 
 -- no exact height divides by zero
-pub height-defined : (e : Envelope) → EnvelopeRange e → (t : Float) → T (fits binary32 t) → Defined (heightℚ e t)
+pub height-defined : (e : Envelope) → EnvelopeRange e → (t : Float) → T (fits binary32 t) → Defined (envelopeHeightℚ e t)
 height-defined e r t f = envelope-drawn e r t f .near .right

@@ -9,7 +9,7 @@ use lib.Dec.{T, lit<, lit≤}
 use lib.Ieee.{Float, binary32, ofBits, fits, le, lt}
 use lib.Ieee.Fits.{sub-fits, div-fits, cond-fits}
 use lib.Ieee.Scale.{finite, overflow}
-use Rattle.exact.specs.Fraction.{Fraction, Defined, ratio, whole, unitℚ, ltℚ, _+ℚ_, _-ℚ_, _*ℚ_, _/ℚ_, _≤ℚ_}
+use Rattle.exact.specs.Fraction.{Fraction, Defined, ratio, whole, clampUnitℚ, ltℚ, _+ℚ_, _-ℚ_, _*ℚ_, _/ℚ_, _≤ℚ_}
 use Rattle.exact.specs.Value.{value, Within, RelativelyWithin}
 use Rattle.exact.specs.Binary32.{_⊖_, _⊘_, bits, zero₃₂, one₃₂}
 use Rattle.exact.proofs.Defined.{value-defined}
@@ -23,7 +23,7 @@ use Rattle.exact.proofs.Analyser.{Bound, Expr, var, minus, quotient, Approximat
 use Rattle.exact.proofs.Soundness.{plainly}
 use Rattle.exact.proofs.Inputs.{range, input, own-near, two, two-inputs, bounded}
 use Rattle.math.specs.Formulas.{clampOf}
-use Rattle.curve.specs.Curve.{unitOf}
+use Rattle.curve.specs.Curve.{clampUnitOf}
 use Rattle.envelope.specs.Formula.{divideOf}
 use Rattle.envelope.specs.Exact.{divideℚ}
 use Rattle.exact.proofs.Signs.{Positive, positive-abs, abs-at-most, difference-positive, difference-nonnegative, difference-nonpositive, difference-monotone, relative-nonpositive, relative-nonnegative, relative-positive, quotient-nonnegative, quotient-at-most-one}
@@ -142,16 +142,16 @@ last-rounded x y fx fy dx dy n p h =
     ((tt, tt), lower-at (2 ^ 149) (value x /ℚ value y) 0 1 0 (lit< tt) (lit≤ tt) (quotient-nonnegative (value x) (value y) dy p n), upper-at (2 ^ 149) (value x /ℚ value y) 2 1 (2 ^ 150) (lit< tt) (lit≤ tt) h)
     1 (2 ^ 24) (lit< tt) last-ok
 
-pub unit-fits : (x : Float) → T (fits binary32 x) → T (fits binary32 (unitOf x))
+pub unit-fits : (x : Float) → T (fits binary32 x) → T (fits binary32 (clampUnitOf x))
 unfolding clampOf fits ofBits
 unit-fits x h = cond-fits binary32 (lt x zero₃₂) zero₃₂ (cond (lt one₃₂ x) one₃₂ x) tt (cond-fits binary32 (lt one₃₂ x) one₃₂ x tt h)
 
-clamped : (x : Float) (X : Fraction) → Within (value x) X (ratio (2 ^ 127) (2 ^ 149)) → Within (value (unitOf x)) (unitℚ X) (ratio (2 ^ 127) (2 ^ 149))
+clamped : (x : Float) (X : Fraction) → Within (value x) X (ratio (2 ^ 127) (2 ^ 149)) → Within (value (clampUnitOf x)) (clampUnitℚ X) (ratio (2 ^ 127) (2 ^ 149))
 unfolding clampOf ofBits
 clamped x X h = within-equal-left (equal-sym (unit-value x (value-defined x .0 (h .left)))) (unit-within h)
 
 some-width : (t from to : Float) → Stretch t from to → T (ltℚ (value from) (value to))
-    → Approximates binary32 (unitOf ((t ⊖ from) ⊘ (to ⊖ from))) (unitℚ ((value t -ℚ value from) /ℚ (value to -ℚ value from))) divideBound
+    → Approximates binary32 (clampUnitOf ((t ⊖ from) ⊘ (to ⊖ from))) (clampUnitℚ ((value t -ℚ value from) /ℚ (value to -ℚ value from))) divideBound
 some-width t from to s l =
     let x = t ⊖ from in
     let y = to ⊖ from in
@@ -172,7 +172,7 @@ some-width t from to s l =
     (lit< tt) (parts-≤ℚ (ratio (2 ^ 24 + 2 ^ 24) (2 ^ 24 * (2 ^ 24 - 1)) *ℚ ratio 1 1) (ratio 3 (2 ^ 24)) (lit≤ tt)) in
     let rounded = last-rounded x y (sub-fits binary32 t from) (sub-fits binary32 to from) (ra .left) (rb .left) na pb (below-two (a /ℚ b) (A /ℚ B) exact hi) in
     let near = within-loosen (within-triangle rounded exact) (lit< tt) (parts-≤ℚ (ratio 1 (2 ^ 24) +ℚ ratio 3 (2 ^ 24)) (ratio (2 ^ 127) (2 ^ 149)) (lit≤ tt)) in
-    unit-input (unitOf (x ⊘ y)) (unitℚ (A /ℚ B)) (unit-fits (x ⊘ y) (div-fits binary32 x y)) (clamped (x ⊘ y) (A /ℚ B) near) (zero-at-most-unit (A /ℚ B) (exact .right) .le) (unit-at-most-one (A /ℚ B) (exact .right) .le)
+    unit-input (clampUnitOf (x ⊘ y)) (clampUnitℚ (A /ℚ B)) (unit-fits (x ⊘ y) (div-fits binary32 x y)) (clamped (x ⊘ y) (A /ℚ B) near) (zero-at-most-unit (A /ℚ B) (exact .right) .le) (unit-at-most-one (A /ℚ B) (exact .right) .le)
 
 -- ---- EVERY STRETCH
 pub divide-near : (t from to : Float) → Stretch t from to → Approximates binary32 (divideOf t from to) (divideℚ (value t) (value from) (value to)) divideBound
@@ -185,7 +185,7 @@ divide-near t from to s = rw (sign-agrees to from (s .stop) (s .start)) (go (lt�
     X : Fraction
     X = (value t -ℚ value from) /ℚ (value to -ℚ value from)
 
-    go : (b : Bool) → (T b → Approximates binary32 (unitOf x) (unitℚ X) divideBound) → Approximates binary32 (cond (not b) zero₃₂ (unitOf x)) (cond b (unitℚ X) (whole (pos 0))) divideBound
+    go : (b : Bool) → (T b → Approximates binary32 (clampUnitOf x) (clampUnitℚ X) divideBound) → Approximates binary32 (cond (not b) zero₃₂ (clampUnitOf x)) (cond b (clampUnitℚ X) (whole (pos 0))) divideBound
     go true k = k tt
     go false k = no-width
 
@@ -193,4 +193,4 @@ pub divide-fits : (t from to : Float) → T (fits binary32 (divideOf t from to))
 unfolding divideOf fits ofBits
 divide-fits t from to =
     let x = (t ⊖ from) ⊘ (to ⊖ from) in
-    cond-fits binary32 (le (to ⊖ from) zero₃₂) zero₃₂ (unitOf x) tt (unit-fits x (div-fits binary32 (t ⊖ from) (to ⊖ from)))
+    cond-fits binary32 (le (to ⊖ from) zero₃₂) zero₃₂ (clampUnitOf x) tt (unit-fits x (div-fits binary32 (t ⊖ from) (to ⊖ from)))

@@ -3,14 +3,14 @@
 use mathlib.Core.Bool.{cond}
 use lib.IntN.{pos}
 use lib.Ieee.{Float}
-use Rattle.exact.specs.Fraction.{Fraction, whole, unitℚ, ltℚ, _+ℚ_, _-ℚ_, _*ℚ_, _/ℚ_}
+use Rattle.exact.specs.Fraction.{Fraction, whole, clampUnitℚ, ltℚ, _+ℚ_, _-ℚ_, _*ℚ_, _/ℚ_}
 use Rattle.exact.specs.Value.{value}
 use Rattle.curve.specs.Curve.{positionOf}
 use Rattle.settings.specs.declared.Envelope.{Envelope}
 
 -- Where t lies between two ends, clamped to 0..1: 0 in a stretch of no width.
 unfoldable pub divideℚ : Fraction → Fraction → Fraction → Fraction
-divideℚ t from to = cond (ltℚ from to) (unitℚ ((t -ℚ from) /ℚ (to -ℚ from))) (whole (pos 0))
+divideℚ t from to = cond (ltℚ from to) (clampUnitℚ ((t -ℚ from) /ℚ (to -ℚ from))) (whole (pos 0))
 
 -- The denominator of a bend: above 0 for a u from 0 to 1 and a k above 0.
 unfoldable pub denominatorℚ : Fraction → Fraction → Fraction
@@ -18,7 +18,7 @@ denominatorℚ u k = u +ℚ k *ℚ (whole (pos 1) -ℚ u)
 
 -- A position along a stretch, clamped to 0..1 and bent by k: u / (u + k (1 - u)).
 unfoldable pub bentℚ : Fraction → Fraction → Fraction
-bentℚ u k = unitℚ u /ℚ denominatorℚ (unitℚ u) k
+bentℚ u k = clampUnitℚ u /ℚ denominatorℚ (clampUnitℚ u) k
 
 -- The four stretches, at a position t.
 unfoldable pub attackℚ : Envelope → Fraction → Fraction
@@ -34,12 +34,12 @@ unfoldable pub releaseℚ : Envelope → Fraction → Fraction
 releaseℚ e t = value (e .«sustain_end») *ℚ (whole (pos 1) -ℚ bentℚ (divideℚ t (value (e .third)) (whole (pos 1))) (value (e .«release_bend»)))
 
 -- The level at t: that of the first stretch whose end t is below, and past the third end the release.
-unfoldable pub levelℚ : Envelope → Fraction → Fraction
-levelℚ e t =
+unfoldable pub envelopeLevelℚ : Envelope → Fraction → Fraction
+envelopeLevelℚ e t =
     cond (ltℚ t (value (e .first))) (attackℚ e t)
     (cond (ltℚ t (value (e .second))) (decayℚ e t)
     (cond (ltℚ t (value (e .third))) (sustainℚ e t) (releaseℚ e t)))
 
 -- The height at any f32, clamped to 0..1.
-unfoldable pub heightℚ : Envelope → Float → Fraction
-heightℚ e t = unitℚ (levelℚ e (value (positionOf t)))
+unfoldable pub envelopeHeightℚ : Envelope → Float → Fraction
+envelopeHeightℚ e t = clampUnitℚ (envelopeLevelℚ e (value (positionOf t)))

@@ -3,12 +3,12 @@ use mathlib.Core.Bool.{cond}
 use lib.Ieee.{Float, lt, le}
 use Rattle.exact.specs.Binary32.{_⊕_, _⊖_, _⊗_, _⊘_, zero₃₂, one₃₂}
 use Rattle.curve.specs.declared.Height.{Height}
-use Rattle.curve.specs.Curve.{unitOf, positionOf, drawnOf}
+use Rattle.curve.specs.Curve.{clampUnitOf, positionOf, drawnOf}
 use Rattle.settings.specs.declared.Envelope.{Envelope}
 
 -- Where t lies between two ends, clamped to 0..1: 0 in a stretch of no width.
 unfoldable pub divideOf : Float → Float → Float → Float
-divideOf t from to = cond (le (to ⊖ from) zero₃₂) zero₃₂ (unitOf ((t ⊖ from) ⊘ (to ⊖ from)))
+divideOf t from to = cond (le (to ⊖ from) zero₃₂) zero₃₂ (clampUnitOf ((t ⊖ from) ⊘ (to ⊖ from)))
 
 -- The denominator of a bend.
 unfoldable pub denominatorOf : Float → Float → Float
@@ -20,7 +20,7 @@ bentUnit u k = cond (le (denominatorOf u k) zero₃₂) u (u ⊘ denominatorOf u
 
 -- A position along a stretch, clamped to 0..1 and bent by k.
 unfoldable pub bentOf : Float → Float → Float
-bentOf u k = bentUnit (unitOf u) k
+bentOf u k = bentUnit (clampUnitOf u) k
 
 -- The four stretches: from 0 up to 1, to the sustain level, to the level that it slopes to, and to 0.
 unfoldable pub attackOf : Envelope → Float → Float
@@ -36,8 +36,8 @@ unfoldable pub releaseOf : Envelope → Float → Float
 releaseOf e t = e .«sustain_end» ⊗ (one₃₂ ⊖ bentOf (divideOf t (e .third) one₃₂) (e .«release_bend»))
 
 -- The level at t: that of the first stretch whose end t is below, and past the third end the release.
-unfoldable pub levelOf : Envelope → Float → Float
-levelOf e t = cond (lt t (e .first)) (attackOf e t) (cond (lt t (e .second)) (decayOf e t) (cond (lt t (e .third)) (sustainOf e t) (releaseOf e t)))
+unfoldable pub envelopeLevelOf : Envelope → Float → Float
+envelopeLevelOf e t = cond (lt t (e .first)) (attackOf e t) (cond (lt t (e .second)) (decayOf e t) (cond (lt t (e .third)) (sustainOf e t) (releaseOf e t)))
 
-unfoldable pub heightOf : Envelope → Float → Height
-heightOf e t = drawnOf (levelOf e (positionOf t))
+unfoldable pub envelopeHeightOf : Envelope → Float → Height
+envelopeHeightOf e t = drawnOf (envelopeLevelOf e (positionOf t))

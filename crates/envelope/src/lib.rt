@@ -1,10 +1,10 @@
 // An envelope's height: attack, decay, sustain and release, each a stretch between two ends.
 ghost use mathlib.Core.Path.{_≡_};
-ghost use Rattle.envelope.specs.Formula.{divideOf, bentOf, attackOf, decayOf, sustainOf, releaseOf, levelOf, heightOf};
+ghost use Rattle.envelope.specs.Formula.{divideOf, bentOf, attackOf, decayOf, sustainOf, releaseOf, envelopeLevelOf, envelopeHeightOf};
 use curve::Height;
+use curve::clamp_unit;
 use curve::drawn;
 use curve::position;
-use curve::unit;
 use settings::Envelope;
 
 // Where t lies between two ends, from 0 to 1. In a stretch of no width it is 0.
@@ -15,14 +15,14 @@ fn divide(t: f32, from: f32, to: f32) -> f32
     if width <= 0.0 {
         return 0.0;
     }
-    unit((t - from) / width)
+    clamp_unit((t - from) / width)
 }
 
 // A position along a stretch, bent by k: as it is where k is 1, and fixed at both ends.
 fn bent(u: f32, k: f32) -> f32
     ensures { λ r. ⌜ r ≡ bentOf u k ⌝ }
 {
-    let u = unit(u);
+    let u = clamp_unit(u);
     let denominator = u + k * (1.0 - u);
     if denominator <= 0.0 {
         return u;
@@ -66,7 +66,7 @@ fn release(envelope: Envelope, t: f32) -> f32
 
 // The level at t: that of the first stretch whose end t is below, and past the third end the release.
 fn level(envelope: Envelope, t: f32) -> f32
-    ensures { λ r. ⌜ r ≡ levelOf envelope t ⌝ }
+    ensures { λ r. ⌜ r ≡ envelopeLevelOf envelope t ⌝ }
 {
     if t < envelope.first {
         return attack(envelope, t);
@@ -82,7 +82,7 @@ fn level(envelope: Envelope, t: f32) -> f32
 
 // The height at any f32.
 pub fn envelope_height(envelope: Envelope, t: f32) -> Height
-    ensures { λ r. ⌜ r ≡ heightOf envelope t ⌝ }
+    ensures { λ r. ⌜ r ≡ envelopeHeightOf envelope t ⌝ }
 {
     drawn(level(envelope, position(t)))
 }

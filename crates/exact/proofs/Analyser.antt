@@ -8,7 +8,7 @@ use lib.IntN.{ℤ, pos, negℤ, _+ℤ_, _-ℤ_, _*ℤ_}
 use lib.Signed.{leZ, nonNeg}
 use lib.Dec.{leb, ltb, eqb}
 use lib.Ieee.{Float, nan, inf, fin, Format, prec, emax, low, up, down, size, add, sub, mul, div, neg, lt}
-use Rattle.exact.specs.Fraction.{Fraction, Defined, smaller, larger, floorOver, unitℚ, negℚ, _+ℚ_, _-ℚ_, _*ℚ_, _/ℚ_}
+use Rattle.exact.specs.Fraction.{Fraction, Defined, smaller, larger, floorOver, clampUnitℚ, negℚ, _+ℚ_, _-ℚ_, _*ℚ_, _/ℚ_}
 use Rattle.exact.specs.Value.{value}
 use Rattle.exact.proofs.Parts.{part⁺, part⁻, num⁺, num⁻}
 use Rattle.exact.proofs.Operations.{NearParts}
@@ -90,7 +90,7 @@ evalExact σ (plus a b) = evalExact σ a +ℚ evalExact σ b
 evalExact σ (minus a b) = evalExact σ a -ℚ evalExact σ b
 evalExact σ (times a b) = evalExact σ a *ℚ evalExact σ b
 evalExact σ (over a b) = evalExact σ a /ℚ evalExact σ b
-evalExact σ (clamped a) = unitℚ (evalExact σ a)
+evalExact σ (clamped a) = clampUnitℚ (evalExact σ a)
 evalExact σ (truncated a b) = evalExact σ b
 evalExact σ (enclosed l h a) = evalExact σ a
 evalExact σ (quotient l h a b) = evalExact σ a /ℚ evalExact σ b

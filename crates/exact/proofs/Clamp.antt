@@ -8,7 +8,7 @@ use lib.IntN.{ℤ, pos, negsuc}
 use lib.Signed.{ltZ}
 use lib.Dec.{T}
 use lib.Ieee.{Float, fin, lt}
-use Rattle.exact.specs.Fraction.{Fraction, smaller, larger, unitℚ}
+use Rattle.exact.specs.Fraction.{Fraction, smaller, larger, clampUnitℚ}
 use Rattle.exact.proofs.Close.{Close}
 use Rattle.exact.proofs.Parts.{part⁺, part⁻, num⁺, num⁻, ltZ-parts, nltZ-parts}
 use Rattle.exact.proofs.Operations.{Quanta}
@@ -89,7 +89,7 @@ exact-held (pos n) d = above (ltZ (pos n) (pos 0)) (ltZ-parts (pos n) (pos 0))
     above true i = absurd (none n (i tt))
     above false i = below (ltZ (pos d) (pos n)) (ltZ-parts (pos d) (pos n)) (nltZ-parts (pos d) (pos n))
 
-pub clamp-near : (U : ℕ) (x : Float) (A : Fraction) (e : ℕ) → 0 < U → Near U x A e → Near U (clampUnit x) (unitℚ A) e
+pub clamp-near : (U : ℕ) (x : Float) (A : Fraction) (e : ℕ) → 0 < U → Near U x A e → Near U (clampUnit x) (clampUnitℚ A) e
 clamp-near U x A e P h =
     let q = float-held U x (h .plus) (h .minus) P (h .quanta) in
     let d = A .den in
@@ -98,15 +98,15 @@ clamp-near U x A e P h =
       minus = q .minus;
       quanta = q .quanta;
       close =
-          no-further (h .plus * d) (h .minus * d) (U * d) (q .plus * d) (q .minus * d) (num⁺ A * U) (num⁻ A * U) (num⁺ (unitℚ A) * U) (num⁻ (unitℚ A) * U) (e * d) (h .close)
-          (held-times (h .plus) (h .minus) U (q .plus) (q .minus) d (q .held)) (rw (swap U d) (held-times (num⁺ A) (num⁻ A) d (num⁺ (unitℚ A)) (num⁻ (unitℚ A)) U (exact-held (A .num) d)));
+          no-further (h .plus * d) (h .minus * d) (U * d) (q .plus * d) (q .minus * d) (num⁺ A * U) (num⁻ A * U) (num⁺ (clampUnitℚ A) * U) (num⁻ (clampUnitℚ A) * U) (e * d) (h .close)
+          (held-times (h .plus) (h .minus) U (q .plus) (q .minus) d (q .held)) (rw (swap U d) (held-times (num⁺ A) (num⁻ A) d (num⁺ (clampUnitℚ A)) (num⁻ (clampUnitℚ A)) U (exact-held (A .num) d)));
     }
   where
     swap : (U d : ℕ) → U * d ≡ d * U
     swap U d = omega arith
 
 -- ---- its range
-pub unit-lower : (U : ℕ) (A : Fraction) → Lower U (unitℚ A) (pos 0)
+pub unit-lower : (U : ℕ) (A : Fraction) → Lower U (clampUnitℚ A) (pos 0)
 unit-lower U A = go (exact-held (A .num) (A .den))
   where
     go : {p n k k' : ℕ} → Held p n (A .den) k k' → 0 * A .den + k' * U ≤ k * U + 0 * A .den
@@ -114,7 +114,7 @@ unit-lower U A = go (exact-held (A .num) (A .den))
     go {p} {n} {k} {k'} (high a b c) = rw (b, c) (omega arith)
     go {p} {n} {k} {k'} (mid a b c d) = rw (c, d) (omega (arith, mul-le-mul-right U a))
 
-pub unit-upper : (U : ℕ) (A : Fraction) → Upper U (unitℚ A) (pos U)
+pub unit-upper : (U : ℕ) (A : Fraction) → Upper U (clampUnitℚ A) (pos U)
 unit-upper U A = go (exact-held (A .num) (A .den))
   where
     go : {p n k k' : ℕ} → Held p n (A .den) k k' → k * U + 0 * A .den ≤ U * A .den + k' * U

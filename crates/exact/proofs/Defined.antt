@@ -11,7 +11,7 @@ use lib.Dec.{T}
 use lib.Ieee.{Float, nan, inf, fin}
 use lib.Ieee.Fits.{down-pos}
 use lib.Ieee.Scale.{finite}
-use Rattle.exact.specs.Fraction.{Fraction, Defined, powerOfTwo, over, _+ℚ_, negℚ, _-ℚ_, _*ℚ_, _/ℚ_, minℚ, maxℚ, absℚ, unitℚ}
+use Rattle.exact.specs.Fraction.{Fraction, Defined, powerOfTwo, over, _+ℚ_, negℚ, _-ℚ_, _*ℚ_, _/ℚ_, minℚ, maxℚ, absℚ, clampUnitℚ}
 use Rattle.exact.specs.Value.{value}
 use Rattle.exact.proofs.Operations.{first-pos}
 
@@ -54,7 +54,7 @@ negation-defined a = (λ h. h, λ h. h)
 pub abs-defined : (a : Fraction) → Defined (absℚ a) ↔ Defined a
 abs-defined a = (λ h. h, λ h. h)
 
-pub unit-defined : (a : Fraction) → Defined (unitℚ a) ↔ Defined a
+pub unit-defined : (a : Fraction) → Defined (clampUnitℚ a) ↔ Defined a
 unit-defined a = (λ h. h, λ h. h)
 
 pub power-defined : (z : ℤ) → Defined (powerOfTwo z)

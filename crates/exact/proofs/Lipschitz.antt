@@ -16,7 +16,7 @@ use lib.Ieee.{Float, fin, lt, ofBits}
 use lib.Ieee as F
 use lib.Ieee.Fits.{down-pos}
 use lib.Ieee.Scale.{finite}
-use Rattle.exact.specs.Fraction.{Fraction, Defined, ratio, _+ℚ_, negℚ, _≤ℚ_, smaller, larger, minℚ, maxℚ, absℚ, unitℚ}
+use Rattle.exact.specs.Fraction.{Fraction, Defined, ratio, _+ℚ_, negℚ, _≤ℚ_, smaller, larger, minℚ, maxℚ, absℚ, clampUnitℚ}
 use Rattle.exact.specs.Value.{value, Equal, Within}
 use Rattle.exact.specs.Binary32.{zero₃₂, one₃₂}
 use Rattle.exact.proofs.Parts.{part⁺, part⁻, num⁺, num⁻, neg⁺, neg⁻, scale⁺, scale⁻, signed⁺, signed⁻, abs-parts, OneSided, up, down, one-sided, ltZ-parts, nltZ-parts}
@@ -157,28 +157,28 @@ raised a = whole-over (a .den) (larger (a .num) (pos 0))
 pub raised-is-max : (a : Fraction) → Defined a → IsMax (raised a) a (ratio 0 1)
 raised-is-max a A = larger-is-max (a .den) (a .num) (pos 0) A (equal-refl A) (parts-equal A (omega arith) (omega arith))
 
-pub unit-is-min : (a : Fraction) → Defined a → IsMin (unitℚ a) (raised a) (ratio 1 1)
+pub unit-is-min : (a : Fraction) → Defined a → IsMin (clampUnitℚ a) (raised a) (ratio 1 1)
 unit-is-min a A = smaller-is-min (a .den) (raised a .num) (pos (a .den)) A (equal-refl A) (parts-equal A (omega arith) (omega arith))
 
-pub unit-within : {a A : Fraction} {r s : ℕ} → Within a A (ratio r s) → Within (unitℚ a) (unitℚ A) (ratio r s)
+pub unit-within : {a A : Fraction} {r s : ℕ} → Within a A (ratio r s) → Within (clampUnitℚ a) (clampUnitℚ A) (ratio r s)
 unit-within {a} {A} h =
     best-within upward (unit-is-min a (h .left)) (unit-is-min A (h .right))
     (best-within downward (raised-is-max a (h .left)) (raised-is-max A (h .right)) h (equal-within (equal-refl one-pos) (h .bound))) (equal-within (equal-refl one-pos) (h .bound))
 
 -- where it lies, and what it leaves alone
-pub unit-at-most : {a c : Fraction} → AtMost a c → AtMost (ratio 0 1) c → AtMost (unitℚ a) c
+pub unit-at-most : {a c : Fraction} → AtMost a c → AtMost (ratio 0 1) c → AtMost (clampUnitℚ a) c
 unit-at-most {a} h k = at-most-trans (unit-is-min a (h .left) .left) (before-best downward (raised-is-max a (h .left)) h k)
 
-pub at-most-unit : {a c : Fraction} → AtMost c a → AtMost c (ratio 1 1) → AtMost c (unitℚ a)
+pub at-most-unit : {a c : Fraction} → AtMost c a → AtMost c (ratio 1 1) → AtMost c (clampUnitℚ a)
 at-most-unit {a} h k = before-best upward (unit-is-min a (h .right)) (at-most-trans h (raised-is-max a (h .right) .left)) k
 
-pub unit-at-most-one : (a : Fraction) → Defined a → AtMost (unitℚ a) (ratio 1 1)
+pub unit-at-most-one : (a : Fraction) → Defined a → AtMost (clampUnitℚ a) (ratio 1 1)
 unit-at-most-one a A = unit-is-min a A .right
 
-pub zero-at-most-unit : (a : Fraction) → Defined a → AtMost (ratio 0 1) (unitℚ a)
+pub zero-at-most-unit : (a : Fraction) → Defined a → AtMost (ratio 0 1) (clampUnitℚ a)
 zero-at-most-unit a A = before-best upward (unit-is-min a A) (raised-is-max a A .right) (record { left = one-pos; right = one-pos; le = leZ-yes tt })
 
-pub unit-inside : (a : Fraction) → Defined a → ratio 0 1 ≤ℚ a → a ≤ℚ ratio 1 1 → Equal (unitℚ a) a
+pub unit-inside : (a : Fraction) → Defined a → ratio 0 1 ≤ℚ a → a ≤ℚ ratio 1 1 → Equal (clampUnitℚ a) a
 unit-inside a A h k =
     at-most-equal (unit-at-most (at-most-refl A) (record { left = one-pos; right = A; le = h }))
     (at-most-unit (at-most-refl A) (record { left = A; right = one-pos; le = k }))
@@ -220,7 +220,7 @@ pub one-bits : one₃₂ ≡ oneᶠ
 unfolding ofBits
 one-bits = refl
 
-pub unit-value : (x : Float) → T (finite x) → Equal (value (cond (lt x zeroᶠ) zeroᶠ (cond (lt oneᶠ x) oneᶠ x))) (unitℚ (value x))
+pub unit-value : (x : Float) → T (finite x) → Equal (value (cond (lt x zeroᶠ) zeroᶠ (cond (lt oneᶠ x) oneᶠ x))) (clampUnitℚ (value x))
 unfolding value
 unit-value x X = go (lt x zeroᶠ) (lt oneᶠ x) (lt-at-most x zeroᶠ X tt) (nlt-at-most x zeroᶠ X tt) (lt-at-most oneᶠ x tt X) (nlt-at-most oneᶠ x tt X)
   where
@@ -231,7 +231,7 @@ unit-value x X = go (lt x zeroᶠ) (lt oneᶠ x) (lt-at-most x zeroᶠ X tt) (nl
     A = value-defined x .1 X
 
     go : (s t : Bool) → (T s → AtMost a (ratio 0 1)) → (T (not s) → AtMost (ratio 0 1) a) → (T t → AtMost (ratio 1 1) a) → (T (not t) → AtMost a (ratio 1 1))
-        → Equal (value (cond s zeroᶠ (cond t oneᶠ x))) (unitℚ a)
+        → Equal (value (cond s zeroᶠ (cond t oneᶠ x))) (clampUnitℚ a)
     go true t h k l n = at-most-equal (zero-at-most-unit a A) (unit-at-most (h tt) (at-most-refl one-pos))
     go false true h k l n = at-most-equal (at-most-unit (l tt) (at-most-refl one-pos)) (unit-at-most-one a A)
     go false false h k l n = equal-sym (unit-inside a A (k tt .le) (n tt .le))

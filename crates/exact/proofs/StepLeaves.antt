@@ -8,7 +8,7 @@ use lib.Dec.{T, leb, ltb, leb→le, ltb→lt, eqb→eq}
 use lib.Pow.{pow-pos}
 use lib.Ieee.{Float, nan, inf, fin, Format, low, up, down}
 use lib.Ieee.Fits.{and-l, and-r, down-pos}
-use Rattle.exact.specs.Fraction.{Fraction, unitℚ}
+use Rattle.exact.specs.Fraction.{Fraction, clampUnitℚ}
 use Rattle.exact.specs.Value.{value}
 use Rattle.exact.proofs.Close.{Close}
 use Rattle.exact.proofs.Parts.{part⁺, part⁻, num⁺, num⁻, neg⁺, neg⁻, add-parts, signed⁺, signed⁻}
@@ -155,7 +155,7 @@ pub enclosed-guard : (l h : ℤ) (a : Analysis) → T (enclosedOf l h a .ok) →
 unfolding enclosedOf
 enclosed-guard l h a ok = ok
 
-pub clamped-sound : (f : Format) (x : Float) (A : Fraction) (a : Analysis) → Approximates f x A (a .bound) → Approximates f (clampUnit x) (unitℚ A) (clampedOf f a .bound)
+pub clamped-sound : (f : Format) (x : Float) (A : Fraction) (a : Analysis) → Approximates f x A (a .bound) → Approximates f (clampUnit x) (clampUnitℚ A) (clampedOf f a .bound)
 unfolding clampedOf
 clamped-sound f x A a h =
     record { defined = h .defined; near = clamp-near (2 ^ low f) x A (a .bound .err) (pow-pos (low f)) (h .near); lower = unit-lower (2 ^ low f) A; upper = unit-upper (2 ^ low f) A }

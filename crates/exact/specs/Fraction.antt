@@ -79,8 +79,8 @@ maxℚ a b = record { num = larger (a .num *ℤ pos (b .den)) (b .num *ℤ pos (
 abbrev pub absℚ : Fraction → Fraction
 absℚ a = ratio (natAbs (a .num)) (a .den)
 
-abbrev pub unitℚ : Fraction → Fraction
-unitℚ a = record { num = smaller (larger (a .num) (pos 0)) (pos (a .den)); den = a .den }
+abbrev pub clampUnitℚ : Fraction → Fraction
+clampUnitℚ a = record { num = smaller (larger (a .num) (pos 0)) (pos (a .den)); den = a .den }
 
 -- The largest whole number not above a: -(n + 1) / d lies in the step that ends at -(n / d).
 abbrev pub floorOver : ℤ → ℕ → ℤ

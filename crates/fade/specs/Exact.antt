@@ -2,7 +2,7 @@
 -- Definitions only.
 use mathlib.Core.Bool.{cond}
 use lib.Ieee.{Float}
-use Rattle.exact.specs.Fraction.{Fraction, ratio, ltℚ, unitℚ, _/ℚ_}
+use Rattle.exact.specs.Fraction.{Fraction, ratio, ltℚ, clampUnitℚ, _/ℚ_}
 use Rattle.exact.specs.Value.{value}
 use Rattle.curve.specs.Curve.{positionOf}
 use Rattle.settings.specs.declared.Fade.{Fade}
@@ -12,4 +12,4 @@ unfoldable pub fadeℚ : Fraction → Fraction → Fraction
 fadeℚ E P = cond (ltℚ P E) (P /ℚ E) (ratio 1 1)
 
 unfoldable pub fadeHeightℚ : Fade → Float → Fraction
-fadeHeightℚ f t = unitℚ (fadeℚ (value (f .end)) (value (positionOf t)))
+fadeHeightℚ f t = clampUnitℚ (fadeℚ (value (f .end)) (value (positionOf t)))

@@ -12,20 +12,20 @@ use Rattle.exact.proofs.Analyser.{Expr, var, constant, approx, plus, minus, tim
 use Rattle.exact.proofs.Soundness.{plainly}
 use Rattle.exact.proofs.Inputs.{two, two-inputs, bounded}
 use Rattle.math.specs.Formulas.{clampOf}
-use Rattle.curve.specs.Curve.{unitOf, positionOf, drawnOf, Drawn}
+use Rattle.curve.specs.Curve.{clampUnitOf, positionOf, drawnOf, Drawn}
 use Rattle.curve.proofs.Positions.{Level, position-level}
 use Rattle.curve.proofs.Clamped.{drawn-near}
 use Rattle.settings.specs.declared.Filter.{Filter}
 use Rattle.settings.proofs.Ranges.{FilterRange}
-use Rattle.filter.specs.Formula.{halfPower₃₂, floor₃₂, range₃₂, octavesOf, twicePolesOf, squaredOf, logOf, distanceOf, peakOf, scaledOf, levelOf, heightOf}
-use Rattle.filter.specs.Exact.{halfPowerℚ, octavesℚ, squaredℚ, logℚ, distanceℚ, peakℚ, scaledℚ, levelℚ, heightℚ}
+use Rattle.filter.specs.Formula.{halfPower₃₂, floorDb₃₂, rangeDb₃₂, octavesOf, twicePolesOf, squaredOf, logOf, distanceOf, peakOf, scaledOf, filterLevelOf, filterHeightOf}
+use Rattle.filter.specs.Exact.{halfPowerℚ, octavesℚ, squaredℚ, logℚ, distanceℚ, peakℚ, scaledℚ, filterLevelℚ, filterHeightℚ}
 use Rattle.filter.proofs.Exponent.{octaves-near, squared-near}
 use Rattle.filter.proofs.Resonance.{peakBound, peak-near}
 use Rattle.filter.proofs.RollOff.{rollOffBound, log-near}
 
 -- ---- the level, of a logarithm (input 0) and a peak (input 1)
 scaled : Expr
-scaled = over (minus (plus (times (approx halfPower₃₂ halfPowerℚ) (var 0)) (var 1)) (constant floor₃₂)) (constant range₃₂)
+scaled = over (minus (plus (times (approx halfPower₃₂ halfPowerℚ) (var 0)) (var 1)) (constant floorDb₃₂)) (constant rangeDb₃₂)
 
 scaled-ok : T (certified binary32 (two rollOffBound peakBound) scaled 1 262144)
 unfolding certified analyse scaled rollOffBound peakBound two ofBits
@@ -43,14 +43,14 @@ unclamped f t = scaledOf (logOf (squaredOf f (octavesOf f t))) (peakOf f (distan
 unclamped-fits : (f : Filter) (t : Float) → T (fits binary32 (unclamped f t))
 unfolding unclamped scaledOf
 unclamped-fits f t =
-    div-fits binary32 (halfPower₃₂ ⊗ logOf (squaredOf f (octavesOf f t)) ⊕ peakOf f (distanceOf f (octavesOf f t)) ⊖ floor₃₂) range₃₂
+    div-fits binary32 (halfPower₃₂ ⊗ logOf (squaredOf f (octavesOf f t)) ⊕ peakOf f (distanceOf f (octavesOf f t)) ⊖ floorDb₃₂) rangeDb₃₂
 
 squared-fits : (f : Filter) (o : Float) → T (fits binary32 (squaredOf f o))
 unfolding squaredOf
 squared-fits f o = mul-fits binary32 (twicePolesOf (f .slope)) o
 
-level-near : (f : Filter) → FilterRange f → (t : Float) → Level t → Within (value (unclamped f t)) (levelℚ f (value t)) (ratio 1 262144)
-unfolding unclamped levelℚ
+level-near : (f : Filter) → FilterRange f → (t : Float) → Level t → Within (value (unclamped f t)) (filterLevelℚ f (value t)) (ratio 1 262144)
+unfolding unclamped filterLevelℚ
 level-near f r t h =
     let o = octavesOf f t in
     let O = octavesℚ f (value t) in
@@ -58,18 +58,18 @@ level-near f r t h =
     (log-near (squaredOf f o) (squaredℚ f O) (squared-fits f o) (squared-near f o O r (octaves-near f t r h))) (peak-near f t r h)
 
 -- ---- the second clamp changes nothing
-unit-twice : (x : Float) → unitOf (unitOf x) ≡ unitOf x
+unit-twice : (x : Float) → clampUnitOf (clampUnitOf x) ≡ clampUnitOf x
 unfolding clampOf lt ofBits
 unit-twice x = go (lt x zero₃₂) (lt one₃₂ x) refl refl
   where
-    go : (a b : Bool) → lt x zero₃₂ ≡ a → lt one₃₂ x ≡ b → unitOf (cond a zero₃₂ (cond b one₃₂ x)) ≡ cond a zero₃₂ (cond b one₃₂ x)
+    go : (a b : Bool) → lt x zero₃₂ ≡ a → lt one₃₂ x ≡ b → clampUnitOf (cond a zero₃₂ (cond b one₃₂ x)) ≡ cond a zero₃₂ (cond b one₃₂ x)
     go true b i j = refl
     go false true i j = refl
     go false false i j = rw (i, j) refl
 
 -- ---- THE THEOREM
-pub filter-drawn : (f : Filter) → FilterRange f → (t : Float) → T (fits binary32 t) → Drawn (heightOf f t .height) (heightℚ f t) (ratio 1 262144)
-unfolding heightOf drawnOf levelOf heightℚ unclamped
+pub filter-drawn : (f : Filter) → FilterRange f → (t : Float) → T (fits binary32 t) → Drawn (filterHeightOf f t .height) (filterHeightℚ f t) (ratio 1 262144)
+unfolding filterHeightOf drawnOf filterLevelOf filterHeightℚ unclamped
 filter-drawn f r t h =
     let p = positionOf t in
-    rw (unit-twice (unclamped f p)) (drawn-near (unclamped f p) (levelℚ f (value p)) 1 262144 (unclamped-fits f p) (level-near f r p (position-level t h)))
+    rw (unit-twice (unclamped f p)) (drawn-near (unclamped f p) (filterLevelℚ f (value p)) 1 262144 (unclamped-fits f p) (level-near f r p (position-level t h)))

@@ -24,7 +24,7 @@ use Rattle.settings.specs.declared.Pass.the-variants.{Low, High}
 use Rattle.curve.proofs.LevelInput.{unit, level-input}
 use Rattle.settings.specs.declared.Filter.{Filter}
 use Rattle.settings.proofs.Ranges.{FilterRange}
-use Rattle.filter.specs.Formula.{two₃₂, six₃₂, ceiling₃₂, octavesOf, distanceOf, peakOf}
+use Rattle.filter.specs.Formula.{two₃₂, six₃₂, ceilingDb₃₂, octavesOf, distanceOf, peakOf}
 use Rattle.filter.specs.Exact.{octavesℚ, distanceℚ, peakℚ}
 use Rattle.filter.proofs.Exchange.{lower-fraction, upper-fraction}
 use Rattle.filter.proofs.Exponent.{octaves, octaves-plain, octaves-runs, octaves-means}
@@ -36,7 +36,7 @@ distance p = times (octaves p) (plus (constant two₃₂) (times (var 1) (consta
 
 peak : Pass → Expr
 unfolding distance
-peak p = over (times (var 1) (approx ceiling₃₂ (ratio 12 1))) (plus (constant one₃₂) (times (distance p) (distance p)))
+peak p = over (times (var 1) (approx ceilingDb₃₂ (ratio 12 1))) (plus (constant one₃₂) (times (distance p) (distance p)))
 
 unfoldable pub peakBound : Bound
 peakBound = record { lo = pos 0; hi = pos (12 * 2 ^ 149); err = 1300 * 2 ^ 125 }

@@ -29,7 +29,7 @@ use Rattle.exact.proofs.Analyser.{Bound, Expr, var, constant, plus, Approximate
 use Rattle.exact.proofs.Soundness.{plainly}
 use Rattle.exact.proofs.Inputs.{one, one-input, covers, concludes, concluded, result}
 use Rattle.math.specs.Horner.{horner}
-use Rattle.math.specs.Formulas.{clampOf, fractOf, scaleOf, exp2Coefficients, exp2Within, exp2Of, log2Of}
+use Rattle.math.specs.Formulas.{clampOf, fractOf, exp2Scale, exp2Coefficients, exp2Within, exp2Of, log2Of}
 use Rattle.math.specs.Series.{exp2ℚ, log2ℚ}
 use Rattle.math.proofs.Exp2Error.{powerBound, NearPower, exp2-approximates}
 use Rattle.math.proofs.ExactExp2.{exp2-near}
@@ -151,7 +151,7 @@ rollOffBound = record { lo = negsuc (2 ^ 149 - 1); hi = pos (33 * 2 ^ 149); err 
 
 exp2-fits : (x : Float) → T (fits binary32 (exp2Of x))
 unfolding exp2Of exp2Within
-exp2-fits x = let c = clampOf (bits 0xc2fc_0000) (bits 0x42fe_0000) x in mul-fits binary32 (horner exp2Coefficients (fractOf c)) (scaleOf c)
+exp2-fits x = let c = clampOf (bits 0xc2fc_0000) (bits 0x42fe_0000) x in mul-fits binary32 (horner exp2Coefficients (fractOf c)) (exp2Scale c)
 
 pub log-near : (s : Float) (S : Fraction) → T (fits binary32 s) → Approximates binary32 s S squaredBound → Approximates binary32 (logOf s) (logℚ S) rollOffBound
 unfolding logℚ logBound rollOffBound

@@ -1,7 +1,7 @@
 -- THE EXACT HEIGHT OF A FILTER: docs/SPECIFICATION.md, "Exact heights". Nothing here is rounded but the settings and the position that it is given. Definitions only.
 use lib.IntN.{negsuc}
 use lib.Ieee.{Float}
-use Rattle.exact.specs.Fraction.{Fraction, ratio, whole, negℚ, unitℚ, _+ℚ_, _-ℚ_, _*ℚ_, _/ℚ_}
+use Rattle.exact.specs.Fraction.{Fraction, ratio, whole, negℚ, clampUnitℚ, _+ℚ_, _-ℚ_, _*ℚ_, _/ℚ_}
 use Rattle.exact.specs.Value.{value}
 use Rattle.math.specs.Series.{exp2ℚ, log2ℚ}
 use Rattle.curve.specs.Curve.{positionOf}
@@ -43,8 +43,8 @@ halfPowerℚ = negℚ (ratio 12626113 4194304)
 unfoldable pub scaledℚ : Fraction → Fraction → Fraction
 scaledℚ log peak = (halfPowerℚ *ℚ log +ℚ peak -ℚ whole (negsuc 47)) /ℚ ratio 60 1
 
-unfoldable pub levelℚ : Filter → Fraction → Fraction
-levelℚ f t = scaledℚ (logℚ (squaredℚ f (octavesℚ f t))) (peakℚ f (distanceℚ f (octavesℚ f t)))
+unfoldable pub filterLevelℚ : Filter → Fraction → Fraction
+filterLevelℚ f t = scaledℚ (logℚ (squaredℚ f (octavesℚ f t))) (peakℚ f (distanceℚ f (octavesℚ f t)))
 
-unfoldable pub heightℚ : Filter → Float → Fraction
-heightℚ f t = unitℚ (levelℚ f (value (positionOf t)))
+unfoldable pub filterHeightℚ : Filter → Float → Fraction
+filterHeightℚ f t = clampUnitℚ (filterLevelℚ f (value (positionOf t)))

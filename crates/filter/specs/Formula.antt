@@ -4,7 +4,7 @@ use lib.Ieee.{Float, neg, lt}
 use Rattle.exact.specs.Binary32.{_⊕_, _⊖_, _⊗_, _⊘_, bits, half₃₂, one₃₂}
 use Rattle.math.specs.Formulas.{exp2Of, log2Of}
 use Rattle.curve.specs.declared.Height.{Height}
-use Rattle.curve.specs.Curve.{unitOf, positionOf, drawnOf}
+use Rattle.curve.specs.Curve.{clampUnitOf, positionOf, drawnOf}
 use Rattle.settings.specs.declared.Pass.{Pass}
 use Rattle.settings.specs.declared.Pass.the-variants.{Low, High}
 use Rattle.settings.specs.declared.Filter.{Filter}
@@ -25,14 +25,14 @@ abbrev pub halfPower₃₂ : Float
 halfPower₃₂ = bits 0xc040_a8c1
 
 -- 12, -48 and 60: the top of the drawing in decibels, its bottom, and the difference
-abbrev pub ceiling₃₂ : Float
-ceiling₃₂ = bits 0x4140_0000
+abbrev pub ceilingDb₃₂ : Float
+ceilingDb₃₂ = bits 0x4140_0000
 
-abbrev pub floor₃₂ : Float
-floor₃₂ = bits 0xc240_0000
+abbrev pub floorDb₃₂ : Float
+floorDb₃₂ = bits 0xc240_0000
 
-abbrev pub range₃₂ : Float
-range₃₂ = bits 0x4270_0000
+abbrev pub rangeDb₃₂ : Float
+rangeDb₃₂ = bits 0x4270_0000
 
 -- ---- octaves from the corner, which is at one half: a high-pass counts them the other way
 unfoldable pub mirroredOf : Pass → Float → Float
@@ -61,14 +61,14 @@ unfoldable pub distanceOf : Filter → Float → Float
 distanceOf f o = o ⊗ (two₃₂ ⊕ f .resonance ⊗ six₃₂)
 
 unfoldable pub peakOf : Filter → Float → Float
-peakOf f d = f .resonance ⊗ ceiling₃₂ ⊘ (one₃₂ ⊕ d ⊗ d)
+peakOf f d = f .resonance ⊗ ceilingDb₃₂ ⊘ (one₃₂ ⊕ d ⊗ d)
 
 -- ---- the level, of a logarithm and a peak, and of a position; and the height
 unfoldable pub scaledOf : Float → Float → Float
-scaledOf log peak = (halfPower₃₂ ⊗ log ⊕ peak ⊖ floor₃₂) ⊘ range₃₂
+scaledOf log peak = (halfPower₃₂ ⊗ log ⊕ peak ⊖ floorDb₃₂) ⊘ rangeDb₃₂
 
-unfoldable pub levelOf : Filter → Float → Float
-levelOf f t = unitOf (scaledOf (logOf (squaredOf f (octavesOf f t))) (peakOf f (distanceOf f (octavesOf f t))))
+unfoldable pub filterLevelOf : Filter → Float → Float
+filterLevelOf f t = clampUnitOf (scaledOf (logOf (squaredOf f (octavesOf f t))) (peakOf f (distanceOf f (octavesOf f t))))
 
-unfoldable pub heightOf : Filter → Float → Height
-heightOf f t = drawnOf (levelOf f (positionOf t))
+unfoldable pub filterHeightOf : Filter → Float → Height
+filterHeightOf f t = drawnOf (filterLevelOf f (positionOf t))

@@ -1,10 +1,10 @@
 // The response of a filter over three octaves to either side of its corner, in decibels from -48 to 12.
 ghost use mathlib.Core.Path.{_≡_};
-ghost use Rattle.filter.specs.Formula.{mirroredOf, octavesOf, squaredOf, logOf, distanceOf, peakOf, levelOf, heightOf};
+ghost use Rattle.filter.specs.Formula.{mirroredOf, octavesOf, squaredOf, logOf, distanceOf, peakOf, filterLevelOf, filterHeightOf};
 use curve::Height;
+use curve::clamp_unit;
 use curve::drawn;
 use curve::position;
-use curve::unit;
 use math::exp2;
 use math::log2;
 use settings::Filter;
@@ -71,17 +71,17 @@ fn peak(filter: Filter, distance: f32) -> f32
 
 // The response at t, clamped to 0..1.
 fn level(filter: Filter, t: f32) -> f32
-    ensures { λ r. ⌜ r ≡ levelOf filter t ⌝ }
+    ensures { λ r. ⌜ r ≡ filterLevelOf filter t ⌝ }
 {
     let octaves = octaves(filter, t);
     let magnitude = HALF_POWER * log(squared(filter, octaves));
     let decibels = magnitude + peak(filter, distance(filter, octaves));
-    unit((decibels - FLOOR) / RANGE)
+    clamp_unit((decibels - FLOOR) / RANGE)
 }
 
 // The height of a filter's curve at position t.
 pub fn filter_height(filter: Filter, t: f32) -> Height
-    ensures { λ r. ⌜ r ≡ heightOf filter t ⌝ }
+    ensures { λ r. ⌜ r ≡ filterHeightOf filter t ⌝ }
 {
     drawn(level(filter, position(t)))
 }

@@ -9,7 +9,7 @@ use Rattle.settings.proofs.Given.{envelope-range, fade-range, low-pass-range, h
 use Rattle.lfo.proofs.Steps.{slew-above}
 use Rattle.lfo.proofs.LfoDrawn.{walk-range}
 use Rattle.generator.specs.declared.Shape.the-variants.{Envelope as AnEnvelope, Fade as AFade, Lfo as AnLfo, Filter as AFilter, Oscillator as AnOscillator, Noise as ANoise}
-use Rattle.generator.specs.Heights.{slewed}
+use Rattle.generator.proofs.Promised.{slewed}
 use Rattle.generator.proofs.EveryShape.{ShapeRange}
 
 pub envelope-shape-range : (a d s r ac dc sc rc : ℕ) → a < 256 → d < 256 → s < 256 → r < 256 → ac < 256 → dc < 256 → sc < 256 → rc < 256 → ShapeRange (AnEnvelope (envelopeOf a d s r ac dc sc rc))

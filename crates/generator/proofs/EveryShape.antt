@@ -8,7 +8,7 @@ use Rattle.exact.specs.Binary32.{zero₃₂}
 use Rattle.curve.specs.Curve.{drawnOf, Drawn}
 use Rattle.settings.specs.declared.Lfo.{Lfo}
 use Rattle.settings.proofs.Ranges.{EnvelopeRange, FadeRange, FilterRange, OscillatorRange, NoiseRange}
-use Rattle.envelope.specs.Formula as envelope
+use Rattle.envelope.specs.Formula.{envelopeHeightOf}
 use Rattle.envelope.proofs.Distance.{envelope-drawn}
 use Rattle.fade.specs.Formula.{fadeHeightOf}
 use Rattle.oscillator.specs.Formula.{oscillatorHeightOf}
@@ -16,13 +16,14 @@ use Rattle.noise.specs.Formula.{noiseHeightOf}
 use Rattle.fade.proofs.Distance.{fade-drawn}
 use Rattle.oscillator.proofs.Distance.{oscillator-drawn}
 use Rattle.noise.proofs.Distance.{noise-drawn}
-use Rattle.filter.specs.Formula as filter
+use Rattle.filter.specs.Formula.{filterHeightOf}
 use Rattle.filter.proofs.FilterError.{filter-drawn}
 use Rattle.lfo.proofs.Steps.{lfo-steps, no-steps}
 use Rattle.lfo.proofs.LfoDrawn.{WalkRange, lfo-drawn}
 use Rattle.generator.specs.declared.Shape.{Shape}
 use Rattle.generator.specs.declared.Shape.the-variants.{Envelope as AnEnvelope, Fade as AFade, Lfo as AnLfo, Filter as AFilter, Oscillator as AnOscillator, Noise as ANoise}
-use Rattle.generator.specs.Heights.{heightOf, heightℚ, boundOf, slewed, phaseOf, Stepped, Promised}
+use Rattle.generator.specs.Heights.{heightOf, heightℚ, walkPhase}
+use Rattle.generator.proofs.Promised.{shapeBound, slewed, Stepped, Promised}
 
 -- all that the bounds use of a shape's settings
 unfoldable pub ShapeRange : Shape → Type 0
@@ -34,7 +35,7 @@ ShapeRange (AnOscillator o) = OscillatorRange o
 ShapeRange (ANoise n) = NoiseRange n
 
 -- ---- a shape that is not walked
-unwalked : (s : Shape) (t : Float) → T (not (slewed s)) → heightOf s t .steps ≡ 0 → Drawn (heightOf s t .height) (heightℚ s t) (boundOf s) → Promised s t (heightOf s t)
+unwalked : (s : Shape) (t : Float) → T (not (slewed s)) → heightOf s t .steps ≡ 0 → Drawn (heightOf s t .height) (heightℚ s t) (shapeBound s) → Promised s t (heightOf s t)
 unwalked s t n e d = record { equation = refl; drawn = d; steps = record { walked = λ h. absurd (both (slewed s) h n); none = λ _. e } }
   where
     both : (b : Bool) → T b → T (not b) → ⊥
@@ -43,7 +44,7 @@ unwalked s t n e d = record { equation = refl; drawn = d; steps = record { walke
 
 -- ---- an LFO
 lfo-stepped : (l : Lfo) (t : Float) → WalkRange l → T (fits binary32 t) → Stepped (AnLfo l) t (heightOf (AnLfo l) t .steps)
-unfolding heightOf slewed phaseOf
+unfolding heightOf slewed walkPhase
 lfo-stepped l t r f = record { walked = λ h. lfo-steps l t (r .range) h f; none = λ h. no-steps l t (twice (le (l .slew) zero₃₂) h) }
   where
     twice : (b : Bool) → T (not (not b)) → T b
@@ -52,7 +53,7 @@ lfo-stepped l t r f = record { walked = λ h. lfo-steps l t (r .range) h f; none
 
 -- EVERY SHAPE
 pub every-shape : (s : Shape) → ShapeRange s → (t : Float) → T (fits binary32 t) → Promised s t (heightOf s t)
-unfolding ShapeRange heightOf heightℚ boundOf slewed envelope.heightOf fadeHeightOf filter.heightOf oscillatorHeightOf noiseHeightOf drawnOf
+unfolding ShapeRange heightOf heightℚ shapeBound slewed envelopeHeightOf fadeHeightOf filterHeightOf oscillatorHeightOf noiseHeightOf drawnOf
 every-shape (AnEnvelope e) r t f = unwalked (AnEnvelope e) t tt refl (envelope-drawn e r t f)
 every-shape (AFade x) r t f = unwalked (AFade x) t tt refl (fade-drawn x r t f)
 every-shape (AnLfo l) r t f = record { equation = refl; drawn = lfo-drawn l t r f; steps = lfo-stepped l t r f }

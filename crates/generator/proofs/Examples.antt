@@ -7,14 +7,15 @@ use lib.Dec.{T, eqb}
 use lib.Ieee.{binary32, ofBits, toBits, ofInt, add, sub, mul, div, lt}
 use Rattle.exact.specs.Binary32.{bits}
 use Rattle.lists.proofs.Rows.{allPass}
-use Rattle.settings.specs.Settings.{byteOf, totalOf, firstOf, secondOf, thirdOf, envelopeOf, shapeOf, turnsOf, lfoOf, fadeOf, lowPassOf, highPassOf, depthOf, widthOf, sweepOf, oscillatorOneOf, oscillatorTwoOf, noiseOf}
+use Rattle.settings.specs.Settings.{byteOf, totalOf, firstOf, secondOf, thirdOf, envelopeOf, lfoShapeOf, turnsOf, lfoOf, fadeOf, lowPassOf, highPassOf, depthOf, widthOf, sweepOf, oscillatorOneOf, oscillatorTwoOf, noiseOf}
 use Rattle.generator.specs.declared.Shape.{Shape}
 use Rattle.generator.specs.declared.Shape.the-variants.{Envelope as AnEnvelope, Fade as AFade, Lfo as AnLfo, Filter as AFilter, Oscillator as AnOscillator, Noise as ANoise}
 use Rattle.generator.specs.declared.Mark.{Mark}
 use Rattle.generator.specs.declared.Marks.{Marks}
 use Rattle.generator.specs.declared.Gate.{Gate}
 use Rattle.generator.specs.Generator.{scaleOf, scaleNumber, scaleValue, filterUnity, restOf, anchoredOf}
-use Rattle.generator.specs.Marks.{segmentNumber, kindNumber, placesOf, countOf, stored, envelopeMarks, fadeMarks, cyclesFrom, cyclesOf, sweepMarks, pulseMarks, oscillatorMarks, markList, marksOf}
+use Rattle.generator.specs.Marks.{segmentNumber, kindNumber, countOf, stored, envelopeMarks, fadeMarks, cyclesFrom, cyclesOf, sweepMarks, pulseMarks, oscillatorMarks, markList, marksOf}
+use Rattle.lists.specs.Padded.{padded}
 use Rattle.generator.specs.Gates.{gateOf, gatesOf}
 
 -- Two lists of pairs that are the same.
@@ -56,7 +57,7 @@ markRows =
     ∷ []
 
 marks-agree : T (allPass hasMarks markRows)
-unfolding allPass hasMarks same storedPairs markPairs markRows kindNumber segmentNumber marksOf markList stored placesOf countOf envelopeMarks fadeMarks cyclesFrom cyclesOf sweepMarks pulseMarks oscillatorMarks byteOf totalOf firstOf secondOf thirdOf envelopeOf shapeOf turnsOf lfoOf fadeOf lowPassOf highPassOf depthOf widthOf sweepOf oscillatorOneOf oscillatorTwoOf noiseOf toBits ofBits ofInt add sub mul div lt
+unfolding allPass hasMarks same storedPairs markPairs markRows kindNumber segmentNumber marksOf markList stored padded countOf envelopeMarks fadeMarks cyclesFrom cyclesOf sweepMarks pulseMarks oscillatorMarks byteOf totalOf firstOf secondOf thirdOf envelopeOf lfoShapeOf turnsOf lfoOf fadeOf lowPassOf highPassOf depthOf widthOf sweepOf oscillatorOneOf oscillatorTwoOf noiseOf toBits ofBits ofInt add sub mul div lt
 marks-agree = tt
 
 -- ---- the marks of an LFO of any turns, the row's bits: NaN, infinities, zeros, subnormal, just below 1 and 6, more than are stored, huge, negative
@@ -84,7 +85,7 @@ turnRows =
     ∷ []
 
 turns-agree : T (allPass hasTurnMarks turnRows)
-unfolding allPass hasTurnMarks turnMarks same storedPairs markPairs turnRows kindNumber stored placesOf countOf cyclesFrom cyclesOf toBits ofBits ofInt div lt
+unfolding allPass hasTurnMarks turnMarks same storedPairs markPairs turnRows kindNumber stored padded countOf cyclesFrom cyclesOf toBits ofBits ofInt div lt
 turns-agree = tt
 
 -- ---- the bits of the rest, 1 if anchored, the number of the scale, and the bits of what it carries
@@ -110,7 +111,7 @@ sayRows =
     ∷ []
 
 says-agree : T (allPass says sayRows)
-unfolding allPass says same saysOf sayRows restOf anchoredOf scaleOf scaleNumber scaleValue filterUnity shapeOf turnsOf lfoOf lowPassOf highPassOf toBits ofBits mul div
+unfolding allPass says same saysOf sayRows restOf anchoredOf scaleOf scaleNumber scaleValue filterUnity lfoShapeOf turnsOf lfoOf lowPassOf highPassOf toBits ofBits mul div
 says-agree = tt
 
 -- ---- gates: the bits of a start and of an end

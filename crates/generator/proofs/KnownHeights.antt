@@ -8,13 +8,13 @@ use lib.Ieee.{Float, binary32, ofBits, toBits, ofInt, toUnsigned, isNan, lt, le,
 use Rattle.exact.specs.Value.{value}
 use Rattle.exact.specs.Binary32.{_⊗_, zero₃₂, quarter₃₂, half₃₂, one₃₂}
 use Rattle.math.specs.Horner.{horner}
-use Rattle.math.specs.Formulas.{clampOf, floorOf, fractOf, scaleOf, exp2Coefficients, exp2Within, exp2Of}
+use Rattle.math.specs.Formulas.{clampOf, floorOf, fractOf, exp2Scale, exp2Coefficients, exp2Within, exp2Of}
 use Rattle.lists.proofs.Rows.{allPass}
 use Rattle.curve.specs.Curve.{positionOf, drawnOf}
 use Rattle.settings.specs.declared.LfoShape.{LfoShape}
 use Rattle.settings.specs.declared.LfoShape.the-variants.{Triangle, Square, RampUp, SampleAndHold, SampleAndGlide}
-use Rattle.settings.specs.Settings.{byteOf, totalOf, firstOf, secondOf, thirdOf, slopeOf, sloped, sustainEndOf, bendOf, envelopeOf, shapeOf, turnsOf, lfoOf, fadeOf, depthOf, widthOf, sweepOf, oscillatorOneOf, oscillatorTwoOf}
-use Rattle.envelope.specs.Formula.{divideOf, denominatorOf, bentUnit, bentOf, attackOf, decayOf, sustainOf, releaseOf, levelOf, heightOf}
+use Rattle.settings.specs.Settings.{byteOf, totalOf, firstOf, secondOf, thirdOf, slopeOf, sloped, sustainEndOf, bendOf, envelopeOf, lfoShapeOf, turnsOf, lfoOf, fadeOf, depthOf, widthOf, sweepOf, oscillatorOneOf, oscillatorTwoOf}
+use Rattle.envelope.specs.Formula.{divideOf, denominatorOf, bentUnit, bentOf, attackOf, decayOf, sustainOf, releaseOf, envelopeLevelOf, envelopeHeightOf}
 use Rattle.fade.specs.Formula.{fadeLevelOf, fadeHeightOf}
 use Rattle.oscillator.specs.Formula.{sawOf, pulseOf, addedOf, sumOf, wavesOf, oscillatorLevelOf, oscillatorHeightOf}
 use Rattle.lfo_shapes.specs.Formula.{wrapOf, samples, sampleOf, indexOf, sampledOf, triangleOf, squareOf, rampUpOf, glideOf, shapeAtOf}
@@ -26,7 +26,7 @@ unslewed s t = drawnOf (shapeAtOf s (positionOf t ⊗ turnsOf s)) .height
 
 -- the envelope whose times are 0 and whose sustain is 255, by its sustain's curve
 held : ℕ → Float → Float
-held curve t = heightOf (envelopeOf 0 0 255 0 0 0 curve 0) t .height
+held curve t = envelopeHeightOf (envelopeOf 0 0 255 0 0 0 curve 0) t .height
 
 -- oscillator 1 with both waves off
 silent : Float → Float
@@ -55,7 +55,7 @@ known : Float × ℕ → Bool
 known r = eqb (toBits binary32 (r .0)) (r .1)
 
 heights-known : T (allPass known rows)
-unfolding allPass known rows unslewed held silent toBits ofBits ofInt toUnsigned isNan lt le neg add sub mul div value horner clampOf floorOf fractOf scaleOf exp2Coefficients exp2Within exp2Of positionOf drawnOf byteOf totalOf firstOf secondOf thirdOf slopeOf sloped sustainEndOf bendOf envelopeOf turnsOf fadeOf depthOf widthOf sweepOf oscillatorOneOf oscillatorTwoOf divideOf denominatorOf bentUnit bentOf attackOf decayOf sustainOf releaseOf levelOf heightOf fadeLevelOf fadeHeightOf sawOf pulseOf addedOf sumOf wavesOf oscillatorLevelOf oscillatorHeightOf wrapOf samples sampleOf indexOf sampledOf triangleOf squareOf rampUpOf glideOf shapeAtOf
+unfolding allPass known rows unslewed held silent toBits ofBits ofInt toUnsigned isNan lt le neg add sub mul div value horner clampOf floorOf fractOf exp2Scale exp2Coefficients exp2Within exp2Of positionOf drawnOf byteOf totalOf firstOf secondOf thirdOf slopeOf sloped sustainEndOf bendOf envelopeOf turnsOf fadeOf depthOf widthOf sweepOf oscillatorOneOf oscillatorTwoOf divideOf denominatorOf bentUnit bentOf attackOf decayOf sustainOf releaseOf envelopeLevelOf envelopeHeightOf fadeLevelOf fadeHeightOf sawOf pulseOf addedOf sumOf wavesOf oscillatorLevelOf oscillatorHeightOf wrapOf samples sampleOf indexOf sampledOf triangleOf squareOf rampUpOf glideOf shapeAtOf
 heights-known = tt
 
 -- ---- steps, at slew byte 1: of the LFO of a shape's byte at a position
@@ -71,5 +71,5 @@ counted : ℕ × ℕ → Bool
 counted r = eqb (r .0) (r .1)
 
 steps-known : T (allPass counted stepRows)
-unfolding allPass counted stepRows stepsAt lfoHeightOf walkedOf fullSteps fullFrom placeOf stepOf positionOf clampOf lfoOf shapeOf turnsOf byteOf ofBits ofInt isNan lt le neg add mul div
+unfolding allPass counted stepRows stepsAt lfoHeightOf walkedOf fullSteps fullFrom placeOf stepOf positionOf clampOf lfoOf lfoShapeOf turnsOf byteOf ofBits ofInt isNan lt le neg add mul div
 steps-known = tt

@@ -4,5 +4,6 @@ pub mod Counts
 pub mod OpenGates
 pub mod KnownHeights
 pub mod Examples
+pub mod Promised
 pub mod EveryShape
 pub mod EveryBlock

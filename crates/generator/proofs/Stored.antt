@@ -9,10 +9,11 @@ use lib.IntN.{pos}
 use lib.Ieee.{Float, binary32, ofInt, lt}
 use Rattle.generator.specs.declared.Mark.{Mark}
 use Rattle.generator.specs.declared.Marks.{Marks}
-use Rattle.generator.specs.Marks.{placesOf, countOf, maxMarks, stored, pushed, pushedAll, cycleMark, cyclesFrom}
+use Rattle.generator.specs.Marks.{countOf, maxMarks, stored, pushed, pushedAll, cycleMark, cyclesFrom}
+use Rattle.lists.specs.Padded.{padded}
 
 pub pushed-stored : (ks : List Mark) (k : Mark) → pushed (stored ks) k ≡ stored (ks ++ (k ∷ []))
-unfolding pushed stored placesOf countOf
+unfolding pushed stored padded countOf
 pushed-stored [] k = refl
 pushed-stored (a ∷ []) k = refl
 pushed-stored (a ∷ b ∷ []) k = refl

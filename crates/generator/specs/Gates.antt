@@ -4,7 +4,8 @@ use mathlib.Core.List.{[], _∷_}
 use Prim.Native.Nat.{ℕ}
 use lib.Dec.{eqb}
 use lib.IntN.{pos}
-use lib.Ieee.{binary32, ofInt}
+use lib.ListN.{getD}
+use lib.Ieee.{binary32, ofInt, nan}
 use Rattle.exact.specs.Binary32.{_⊕_, zero₃₂}
 use Rattle.settings.specs.Settings.{byteOf}
 use Rattle.generator.specs.declared.Gate.{Gate}
@@ -24,3 +25,7 @@ gatesOf b =
     cond (eqb b 0)
     (record { places = closed ∷ closed ∷ closed ∷ closed ∷ []; count = 0 })
     (record { places = gateOf b 0 ∷ gateOf b 1 ∷ gateOf b 2 ∷ gateOf b 3 ∷ []; count = 4 })
+
+-- Gate number i: past the four places, which no use reaches, a gate of NaNs.
+abbrev pub gateAt : Gates → ℕ → Gate
+gateAt gates i = getD (gates .places) i (record { start = nan; end = nan })

@@ -10,7 +10,7 @@ use Rattle.generator.specs.declared.Scale.the-variants.{Normalised, Turn
 use Rattle.generator.specs.declared.Generator.{Generator}
 
 -- What the horizontal covers: an LFO's turns, the span either side of a filter's corner, one turn of an oscillator.
-unfoldable pub scaleOf : Shape → Scale
+abbrev pub scaleOf : Shape → Scale
 scaleOf (AnEnvelope e) = Normalised
 scaleOf (AFade f) = Normalised
 scaleOf (AnLfo l) = Turns (l .turns)
@@ -23,12 +23,12 @@ unfoldable pub generatorOf : Shape → Generator
 generatorOf s = record { shape = s; scale = scaleOf s }
 
 -- The numbers of the scales, and the number that a scale carries.
-unfoldable pub scaleNumber : Scale → ℕ
+abbrev pub scaleNumber : Scale → ℕ
 scaleNumber Normalised = 0
 scaleNumber (Turns x) = 1
 scaleNumber (Octaves x) = 2
 
-unfoldable pub scaleValue : Scale → Float
+abbrev pub scaleValue : Scale → Float
 scaleValue Normalised = zero₃₂
 scaleValue (Turns x) = x
 scaleValue (Octaves x) = x
@@ -38,7 +38,7 @@ unfoldable pub filterUnity : Float
 filterUnity = bits 0x4240_0000 ⊘ bits 0x4270_0000
 
 -- The height where the shape does nothing.
-unfoldable pub restOf : Shape → Float
+abbrev pub restOf : Shape → Float
 restOf (AnEnvelope e) = zero₃₂
 restOf (AFade f) = zero₃₂
 restOf (AnLfo l) = cond (l .unipolar) zero₃₂ half₃₂
@@ -47,7 +47,7 @@ restOf (AnOscillator o) = half₃₂
 restOf (ANoise n) = half₃₂
 
 -- Whether the left edge is a moment.
-unfoldable pub anchoredOf : Shape → Bool
+abbrev pub anchoredOf : Shape → Bool
 anchoredOf (AnEnvelope e) = true
 anchoredOf (AFade f) = true
 anchoredOf (AnLfo l) = l .synced

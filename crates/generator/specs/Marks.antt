@@ -4,8 +4,9 @@ use mathlib.Core.List.{List, [], _∷_, _++_}
 use Prim.Native.Nat.{ℕ, zero, suc, _+_}
 use lib.Dec.{ltb}
 use lib.IntN.{pos}
-use lib.ListN.{set}
-use lib.Ieee.{Float, binary32, ofInt, lt}
+use lib.ListN.{set, getD}
+use lib.Ieee.{Float, nan, binary32, ofInt, lt}
+use Rattle.lists.specs.Padded.{padded}
 use Rattle.exact.specs.Binary32.{_⊕_, _⊖_, _⊘_, zero₃₂, half₃₂, one₃₂}
 use Rattle.settings.specs.declared.Envelope.{Envelope}
 use Rattle.settings.specs.declared.Fade.{Fade}
@@ -20,13 +21,13 @@ use Rattle.generator.specs.declared.Mark.{Mark}
 use Rattle.generator.specs.declared.Marks.{Marks}
 
 -- ---- the numbers of the segments and of the kinds of marks
-unfoldable pub segmentNumber : Segment → ℕ
+abbrev pub segmentNumber : Segment → ℕ
 segmentNumber Attack = 0
 segmentNumber Decay = 1
 segmentNumber Sustain = 2
 segmentNumber Release = 3
 
-unfoldable pub kindNumber : MarkKind → ℕ
+abbrev pub kindNumber : MarkKind → ℕ
 kindNumber (ASegment s) = segmentNumber s
 kindNumber Corner = 4
 kindNumber Cycle = 5
@@ -46,12 +47,6 @@ markOf x k = record { at = x; kind = k }
 abbrev pub unused : Mark
 unused = markOf zero₃₂ Corner
 
--- The first n of a list, and unused places where it is shorter.
-unfoldable pub placesOf : ℕ → List Mark → List Mark
-placesOf zero ks = []
-placesOf (suc n) [] = unused ∷ placesOf n []
-placesOf (suc n) (k ∷ ks) = k ∷ placesOf n ks
-
 -- How many of a list there are, if they are at most n; otherwise n.
 unfoldable pub countOf : ℕ → List Mark → ℕ
 countOf zero ks = 0
@@ -60,7 +55,7 @@ countOf (suc n) (k ∷ ks) = suc (countOf n ks)
 
 -- The record of a list's marks: those past the sixth are dropped.
 unfoldable pub stored : List Mark → Marks
-stored ks = record { places = placesOf maxMarks ks; count = countOf maxMarks ks }
+stored ks = record { places = padded unused maxMarks ks; count = countOf maxMarks ks }
 
 -- The record of no marks.
 unfoldable pub noMarks : Marks
@@ -74,6 +69,10 @@ pushed m k = cond (ltb (m .count) maxMarks) (record { places = set (m .places) (
 unfoldable pub pushedAll : Marks → List Mark → Marks
 pushedAll m [] = m
 pushedAll m (k ∷ ks) = pushedAll (pushed m k) ks
+
+-- Mark number i: past the six places, which no use reaches, an attack at a NaN.
+abbrev pub markAt : Marks → ℕ → Mark
+markAt marks i = getD (marks .places) i (markOf nan (ASegment Attack))
 
 -- ---- the marks of each shape
 -- The start of each segment.

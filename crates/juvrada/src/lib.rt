@@ -7,11 +7,11 @@ ghost use Rattle.juvrada.specs.Results.{answerNumber, heightResult, stri
 ghost use Rattle.juvrada.specs.Promises.{HeightReturned, StripReturned, MarksReturned, GatesReturned, TapsReturned};
 use abi::MAX_SETTINGS;
 use abi::gates_used;
-use abi::lay_gate_ends;
-use abi::lay_gate_starts;
-use abi::lay_mark_kinds;
-use abi::lay_mark_positions;
-use abi::lay_settings;
+use abi::copy_gate_ends;
+use abi::copy_gate_starts;
+use abi::copy_mark_kinds;
+use abi::copy_mark_positions;
+use abi::copy_settings;
 use abi::marks_used;
 use abi::scale_number;
 use abi::scale_value;
@@ -177,7 +177,7 @@ pub extern "C" fn juvrada_strip(block: &[u8], code: u8, out: &mut [f32]) -> Stri
 }
 
 // The marks of an answer.
-fn lay_marks(
+fn copy_marks(
     found: MarksAnswer,
     at: &mut [f32; MAX_MARKS],
     kind: &mut [u8; MAX_MARKS],
@@ -186,8 +186,8 @@ fn lay_marks(
 {
     let marks = found.marks;
     let answer = found.answer;
-    lay_mark_positions(marks, at);
-    lay_mark_kinds(marks, kind);
+    copy_mark_positions(marks, at);
+    copy_mark_kinds(marks, kind);
     CountResult {
         refusal: answer_number(answer),
         count: marks_used(marks) as u32,
@@ -203,7 +203,7 @@ pub extern "C" fn juvrada_marks(
 ) -> CountResult
     ensures { λ r. ⌜ MarksReturned (marksAnswer (chosenOf (now (block .entry)) code)) (now (at .entry)) (now (at .exit)) (now (kind .entry)) (now (kind .exit)) r ⌝ }
 {
-    lay_marks(api::marks(block, code), at, kind)
+    copy_marks(api::marks(block, code), at, kind)
 }
 
 #[no_mangle]
@@ -239,7 +239,7 @@ pub extern "C" fn juvrada_settings(
     match answer {
         SettingsAnswer::Settings(shape) => {
             let numbers = settings_numbers(shape);
-            lay_settings(numbers, out);
+            copy_settings(numbers, out);
             CountResult {
                 refusal: 0,
                 count: settings_used(numbers) as u32,
@@ -260,7 +260,7 @@ pub extern "C" fn juvrada_captions(block: &[u8], code: u8, out: &mut [u8]) -> u3
 }
 
 // The gates or the bars of an answer.
-fn lay_gates(
+fn copy_gates(
     found: GatesAnswer,
     start: &mut [f32; GATES_DRAWN],
     end: &mut [f32; GATES_DRAWN],
@@ -269,8 +269,8 @@ fn lay_gates(
 {
     let gates = found.gates;
     let answer = found.answer;
-    lay_gate_starts(gates, start);
-    lay_gate_ends(gates, end);
+    copy_gate_starts(gates, start);
+    copy_gate_ends(gates, end);
     CountResult {
         refusal: answer_number(answer),
         count: gates_used(gates) as u32,
@@ -285,7 +285,7 @@ pub extern "C" fn juvrada_gates(
 ) -> CountResult
     ensures { λ r. ⌜ GatesReturned (gatesAnswer (now (block .entry))) (now (start .entry)) (now (start .exit)) (now (end .entry)) (now (end .exit)) r ⌝ }
 {
-    lay_gates(api::gates(block), start, end)
+    copy_gates(api::gates(block), start, end)
 }
 
 #[no_mangle]
@@ -296,7 +296,7 @@ pub extern "C" fn juvrada_bars(
 ) -> CountResult
     ensures { λ r. ⌜ GatesReturned (barsAnswer (now (block .entry))) (now (start .entry)) (now (start .exit)) (now (end .entry)) (now (end .exit)) r ⌝ }
 {
-    lay_gates(api::bars(block), start, end)
+    copy_gates(api::bars(block), start, end)
 }
 
 // ---- taps
@@ -338,5 +338,5 @@ pub extern "C" fn juvrada_taps_marks(
         answer: Answer::Accepted,
         marks,
     };
-    lay_marks(found, mark_at, kind)
+    copy_marks(found, mark_at, kind)
 }

@@ -4,7 +4,7 @@ use mathlib.Core.List.{List, [], _∷_}
 use Prim.Native.Nat.{ℕ, _-_, _%_}
 use lib.Dec.{ltb}
 use Rattle.text.specs.Text.{ascii}
-use Rattle.text.specs.Words.{wordOf, placeOf}
+use Rattle.text.specs.Words.{wordOf, indexOf}
 use Rattle.codes.specs.declared.Code.{Code}
 use Rattle.codes.specs.Codes.{codeNumber}
 
@@ -23,7 +23,7 @@ envelopeName k = wordOf (ascii "attack|decay|sustain|release|trigger mode|attack
 
 -- Of all others. A level is oscillator 2's or the noise's.
 abbrev pub otherName : ℕ → List ℕ
-otherName n = wordOf (ascii "PWM source|pulse|saw|PWM depth|resonance|poles|gate time|level") (placeOf (16 ∷ 18 ∷ 19 ∷ 25 ∷ 41 ∷ 51 ∷ 160 ∷ []) n)
+otherName n = wordOf (ascii "PWM source|pulse|saw|PWM depth|resonance|poles|gate time|level") (indexOf (16 ∷ 18 ∷ 19 ∷ 25 ∷ 41 ∷ 51 ∷ 160 ∷ []) n)
 
 -- Bytes 0 to 13 are two LFOs', of seven each, and 53 to 79 three envelopes', of nine each.
 unfoldable pub byteName : ℕ → List ℕ

@@ -6,7 +6,7 @@ use native.Mathlib.Omega.{arith}
 use lib.Ieee.{Float, le}
 use Rattle.math.specs.Formulas.{minOf}
 use Rattle.curve.specs.declared.Height.{Height}
-use Rattle.curve.specs.Curve.{unitOf}
+use Rattle.curve.specs.Curve.{clampUnitOf}
 use Rattle.settings.specs.declared.LfoShape.{LfoShape}
 use Rattle.settings.specs.declared.Lfo.{Lfo}
 use Rattle.lfo.specs.Formula.{placeOf, limitOf, movedOf, levelAfter, cutAfter, fullFrom, fullSteps, walkedOf}
@@ -57,7 +57,7 @@ previous-next at n e = rw (gone n) e
 
 -- The step that is cut at the phase.
 pub finished : (l : Lfo) (phase level previous place at end h : Float) (n : ℕ) → 1 ≤ n → level ≡ levelAfter (l .shape) (limitOf (l .slew)) (n - 1) → previous ≡ placeOf (n - 1) → fullSteps phase ≡ n - 1
-    → place ≡ placeOf n → at ≡ minOf place phase → end ≡ movedOf (l .shape) (limitOf (l .slew)) previous at level → h ≡ unitOf end
+    → place ≡ placeOf n → at ≡ minOf place phase → end ≡ movedOf (l .shape) (limitOf (l .slew)) previous at level → h ≡ clampUnitOf end
     → _≡_ {A = Height} (record { height = h; steps = n }) (walkedOf l phase)
 unfolding walkedOf cutAfter
 finished l phase level previous place at end h n i a b f p q e u = cut (n - 1) n (from-one n i) a b f p

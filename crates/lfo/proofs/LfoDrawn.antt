@@ -7,7 +7,7 @@ use Prim.Native.Nat.{ℕ, suc, _≤_, _<_}
 use native.Mathlib.Omega.{arith}
 use lib.Dec.{T}
 use lib.Ieee.{Float, binary32, ofBits, ofInt, fits, le, div}
-use Rattle.exact.specs.Fraction.{ratio, unitℚ, _≤ℚ_}
+use Rattle.exact.specs.Fraction.{ratio, clampUnitℚ, _≤ℚ_}
 use Rattle.exact.specs.Value.{value}
 use Rattle.exact.specs.Binary32.{_⊗_, bits, zero₃₂}
 use Rattle.exact.proofs.Order.{or-cases, lt-at-most}
@@ -61,9 +61,9 @@ walk-range shape slew sync unipolar h = record { range = lfo-range shape slew sy
 
 -- ---- AT SLEW 0, the shape's own level
 unslewed : (s : LfoShape) (t turns : Float) → T (fits binary32 t) → turns ≡ turnsOf s
-    → Drawn (drawnOf (shapeAtOf s (positionOf t ⊗ turns)) .height) (unitℚ (shapeℚ s (value (positionOf t ⊗ turns)))) (ratio 1 262144)
+    → Drawn (drawnOf (shapeAtOf s (positionOf t ⊗ turns)) .height) (clampUnitℚ (shapeℚ s (value (positionOf t ⊗ turns)))) (ratio 1 262144)
 unslewed s t turns f e =
-    subst (λ (x : Float). Drawn (drawnOf (shapeAtOf s (positionOf t ⊗ x)) .height) (unitℚ (shapeℚ s (value (positionOf t ⊗ x)))) (ratio 1 262144)) (sym e) (shape-drawn s t f)
+    subst (λ (x : Float). Drawn (drawnOf (shapeAtOf s (positionOf t ⊗ x)) .height) (clampUnitℚ (shapeℚ s (value (positionOf t ⊗ x)))) (ratio 1 262144)) (sym e) (shape-drawn s t f)
 
 -- ---- AT A SLEW ABOVE 0, the walk's: its full steps end at or below the phase
 passed : (phase : Float) (n : ℕ) → Spanned phase → Steps phase (suc n) → value (placeOf n) ≤ℚ value phase
@@ -79,7 +79,7 @@ passed phase n p s = lt-at-most (placeOf n) phase (place-finite n (lower n (s .m
     next n = omega arith
 
 walked-drawn : (l : Lfo) (phase : Float) → Slew (l .slew) → Spanned phase
-    → Drawn (walkedOf l phase .height) (unitℚ (cutAfterℚ (l .shape) (limitℚ (value (l .slew))) phase (fullSteps phase))) (ratio 1 4096)
+    → Drawn (walkedOf l phase .height) (clampUnitℚ (cutAfterℚ (l .shape) (limitℚ (value (l .slew))) phase (fullSteps phase))) (ratio 1 4096)
 unfolding walkedOf
 walked-drawn l phase h p =
     let n = fullSteps phase in
@@ -102,6 +102,6 @@ lfo-drawn l t r f = go (le (l .slew) zero₃₂) (r .slewed)
 
     go : (b : Bool) → (T (not b) → Slew (l .slew))
         → Drawn ((cond b (drawnOf (shapeAtOf (l .shape) phase)) (walkedOf l phase)) .height)
-        (cond b (unitℚ (shapeℚ (l .shape) (value phase))) (unitℚ (cutAfterℚ (l .shape) (limitℚ (value (l .slew))) phase (fullSteps phase)))) (cond b (ratio 1 262144) (ratio 1 4096))
+        (cond b (clampUnitℚ (shapeℚ (l .shape) (value phase))) (clampUnitℚ (cutAfterℚ (l .shape) (limitℚ (value (l .slew))) phase (fullSteps phase)))) (cond b (ratio 1 262144) (ratio 1 4096))
     go true k = unslewed (l .shape) t (l .turns) f (r .range .turns)
     go false k = walked-drawn l phase (k tt) spanned

@@ -2,15 +2,14 @@
 use mathlib.Core.Bool.{cond}
 use Prim.Native.Nat.{ℕ, zero, suc}
 use lib.Ieee.{Float, le}
-use Rattle.exact.specs.Fraction.{Fraction, ratio, negℚ, minℚ, maxℚ, unitℚ, _+ℚ_, _-ℚ_, _*ℚ_, _/ℚ_}
+use Rattle.exact.specs.Fraction.{Fraction, ratio, negℚ, minℚ, maxℚ, clampUnitℚ, _+ℚ_, _-ℚ_, _*ℚ_, _/ℚ_}
 use Rattle.exact.specs.Value.{value}
-use Rattle.exact.specs.Binary32.{_⊗_, zero₃₂}
+use Rattle.exact.specs.Binary32.{zero₃₂}
 use Rattle.math.specs.Formulas.{minOf}
-use Rattle.curve.specs.Curve.{positionOf}
 use Rattle.settings.specs.declared.LfoShape.{LfoShape}
 use Rattle.settings.specs.declared.Lfo.{Lfo}
 use Rattle.lfo_shapes.specs.Exact.{shapeℚ}
-use Rattle.lfo.specs.Formula.{placeOf, fullSteps}
+use Rattle.lfo.specs.Formula.{placeOf, fullSteps, phaseOf}
 
 -- How far the level may move in a cycle.
 unfoldable pub limitℚ : Fraction → Fraction
@@ -37,5 +36,5 @@ cutAfterℚ s limit phase k = movedℚ s limit (value (placeOf k)) (value (minOf
 unfoldable pub lfoHeightℚ : Lfo → Float → Fraction
 lfoHeightℚ l t =
     cond (le (l .slew) zero₃₂)
-    (unitℚ (shapeℚ (l .shape) (value (positionOf t ⊗ l .turns))))
-    (unitℚ (cutAfterℚ (l .shape) (limitℚ (value (l .slew))) (positionOf t ⊗ l .turns) (fullSteps (positionOf t ⊗ l .turns))))
+    (clampUnitℚ (shapeℚ (l .shape) (value (phaseOf l t))))
+    (clampUnitℚ (cutAfterℚ (l .shape) (limitℚ (value (l .slew))) (phaseOf l t) (fullSteps (phaseOf l t))))

@@ -6,7 +6,7 @@ use lib.Ieee.{Float, binary32, ofInt, neg, le}
 use Rattle.exact.specs.Binary32.{_⊕_, _⊖_, _⊗_, _⊘_, bits, zero₃₂, one₃₂}
 use Rattle.math.specs.Formulas.{minOf, clampOf}
 use Rattle.curve.specs.declared.Height.{Height}
-use Rattle.curve.specs.Curve.{unitOf, positionOf, drawnOf}
+use Rattle.curve.specs.Curve.{clampUnitOf, positionOf, drawnOf}
 use Rattle.settings.specs.declared.LfoShape.{LfoShape}
 use Rattle.settings.specs.declared.Lfo.{Lfo}
 use Rattle.lfo_shapes.specs.Formula.{shapeAtOf}
@@ -47,14 +47,18 @@ fullSteps phase = fullFrom phase 65534 0
 
 -- The height and the steps of a slewed LFO at a phase.
 unfoldable pub walkedOf : Lfo → Float → Height
-walkedOf l phase = record { height = unitOf (cutAfter (l .shape) (limitOf (l .slew)) phase (fullSteps phase)); steps = suc (fullSteps phase) }
+walkedOf l phase = record { height = clampUnitOf (cutAfter (l .shape) (limitOf (l .slew)) phase (fullSteps phase)); steps = suc (fullSteps phase) }
+
+-- The phase of an LFO at any f32: its position times the turns.
+abbrev pub phaseOf : Lfo → Float → Float
+phaseOf l t = positionOf t ⊗ l .turns
 
 -- The height of an LFO without slew, the shape itself, and of one with slew.
 abbrev pub unslewedOf : Lfo → Float → Height
-unslewedOf l t = drawnOf (shapeAtOf (l .shape) (positionOf t ⊗ l .turns))
+unslewedOf l t = drawnOf (shapeAtOf (l .shape) (phaseOf l t))
 
 abbrev pub slewedOf : Lfo → Float → Height
-slewedOf l t = walkedOf l (positionOf t ⊗ l .turns)
+slewedOf l t = walkedOf l (phaseOf l t)
 
 -- The height of an LFO. One that is not slewed has no steps.
 unfoldable pub lfoHeightOf : Lfo → Float → Height

@@ -1,10 +1,10 @@
 // The slew walk of an LFO.
 ghost use mathlib.Core.Path.{_≡_};
-ghost use Rattle.lfo.specs.Formula.{placeOf, movedOf, walkedOf, unslewedOf, slewedOf, lfoHeightOf};
+ghost use Rattle.lfo.specs.Formula.{placeOf, movedOf, walkedOf, unslewedOf, slewedOf, lfoHeightOf, phaseOf};
 use curve::Height;
+use curve::clamp_unit;
 use curve::drawn;
 use curve::position;
-use curve::unit;
 use lfo_shapes::shape_at;
 use math::clamp;
 use math::min;
@@ -57,9 +57,16 @@ fn walked(lfo: Lfo, phase: f32) -> Height
     let end = moved(shape, limit, previous, at, level);
     let steps = count as u32;
     Height {
-        height: unit(end),
+        height: clamp_unit(end),
         steps,
     }
+}
+
+// The phase at any f32: the position, in turns.
+fn phase(lfo: Lfo, t: f32) -> f32
+    ensures { λ r. ⌜ r ≡ phaseOf lfo t ⌝ }
+{
+    position(t) * lfo.turns
 }
 
 // The height of an LFO without slew: the shape itself, with no steps.
@@ -67,14 +74,14 @@ pub fn unslewed_height(lfo: Lfo, t: f32) -> Height
     ensures { λ r. ⌜ r ≡ unslewedOf lfo t ⌝ }
 {
     let shape = lfo.shape;
-    drawn(shape_at(shape, position(t) * lfo.turns))
+    drawn(shape_at(shape, phase(lfo, t)))
 }
 
 // The height of an LFO with slew.
 pub fn slewed_height(lfo: Lfo, t: f32) -> Height
     ensures { λ r. ⌜ r ≡ slewedOf lfo t ⌝ }
 {
-    walked(lfo, position(t) * lfo.turns)
+    walked(lfo, phase(lfo, t))
 }
 
 // The height of an LFO.

@@ -9,7 +9,7 @@ use lib.Signed.{leZ-yes}
 use lib.Dec.{T, lit<, lit≤}
 use lib.Ieee.{Float, binary32, fits}
 use lib.Ieee.Fits.{add-fits, sub-fits}
-use Rattle.exact.specs.Fraction.{Fraction, ratio, negℚ, unitℚ, _+ℚ_, _-ℚ_, _≤ℚ_}
+use Rattle.exact.specs.Fraction.{Fraction, ratio, negℚ, clampUnitℚ, _+ℚ_, _-ℚ_, _≤ℚ_}
 use Rattle.exact.specs.Value.{value, Within}
 use Rattle.exact.specs.Binary32.{_⊖_, _⊗_, half₃₂, one₃₂}
 use Rattle.exact.proofs.Parts.{num⁺, num⁻}
@@ -126,7 +126,7 @@ reached SampleAndHold h = tt
 reached SampleAndGlide {p} h = ≤ℚ-trans (value p) (ratio 6 1) (ratio 16777216 1) (lit< tt) (h .to) (leZ-yes tt)
 
 pub shape-drawn : (s : LfoShape) (t : Float) → T (fits binary32 t)
-    → Drawn (drawnOf (shapeAtOf s (positionOf t ⊗ turnsOf s)) .height) (unitℚ (shapeℚ s (value (positionOf t ⊗ turnsOf s)))) (ratio 1 262144)
+    → Drawn (drawnOf (shapeAtOf s (positionOf t ⊗ turnsOf s)) .height) (clampUnitℚ (shapeℚ s (value (positionOf t ⊗ turnsOf s)))) (ratio 1 262144)
 shape-drawn s t f =
     let p = positionOf t ⊗ turnsOf s in
     let w = position-spanned s t f in

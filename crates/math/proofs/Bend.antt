@@ -8,7 +8,7 @@ use lib.Ieee.Fits.{and-l, and-r}
 use Rattle.exact.specs.Value.{value}
 use Rattle.exact.specs.Binary32.{_⊖_, _⊘_, bits, quarter₃₂}
 use Rattle.math.specs.Horner.{horner}
-use Rattle.math.specs.Formulas.{clampOf, floorOf, fractOf, scaleOf, exp2Coefficients, exp2Within, exp2Of}
+use Rattle.math.specs.Formulas.{clampOf, floorOf, fractOf, exp2Scale, exp2Coefficients, exp2Within, exp2Of}
 use Rattle.lists.proofs.Every.{every, each}
 
 -- 128 and 64, as floats
@@ -22,7 +22,7 @@ in-range : ℕ → Bool
 in-range c = le quarter₃₂ (bend c) && le (bend c) four₃₂
 
 all-in-range : T (every in-range 256)
-unfolding every in-range le lt eq exp2Of exp2Within clampOf floorOf fractOf scaleOf exp2Coefficients horner value ofBits ofInt add sub mul div
+unfolding every in-range le lt eq exp2Of exp2Within clampOf floorOf fractOf exp2Scale exp2Coefficients horner value ofBits ofInt add sub mul div
 all-in-range = tt
 
 pub bend-from-quarter : (c : ℕ) → c < 256 → T (le quarter₃₂ (bend c))

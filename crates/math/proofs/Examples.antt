@@ -11,7 +11,7 @@ use Rattle.lists.proofs.Rows.{allPass}
 use Rattle.exact.specs.Value.{value}
 use Rattle.exact.specs.Binary32.{bits, zero₃₂, one₃₂}
 use Rattle.math.specs.Horner.{horner}
-use Rattle.math.specs.Formulas.{minOf, maxOf, clampOf, absOf, floorOf, fractOf, exp2Of, exp2Within, exp2Coefficients, scaleOf, log2Of, log2Bits, log2Mantissa, log2Series, log2Coefficients, sinTurnsOf, sineOfCycle, sineOfQuarter, sineOfAngle, sineCoefficients, halfOf, quarterOf, signOf}
+use Rattle.math.specs.Formulas.{minOf, maxOf, clampOf, absOf, floorOf, fractOf, exp2Of, exp2Within, exp2Coefficients, exp2Scale, log2Of, log2Bits, log2Mantissa, log2Series, log2Coefficients, sinTurnsOf, sineOfCycle, sineOfQuarter, sineOfAngle, sineCoefficients, halfOf, quarterOf, signOf}
 
 -- f at the row's input, or at its two, has the row's bits.
 gives : (Float → Float) → ℕ × ℕ → Bool
@@ -53,7 +53,7 @@ exp2Rows =
     ∷ (0xb089_705f, 0x3f7f_ffff) ∷ (0xbeaa_aaab, 0x3f4b_2ff4) ∷ (0x3f7f_c8d0, 0x3fff_d9c1) ∷ (0x3f68_1aa6, 0x3fef_f608) ∷ (0x3f7b_d2e4, 0x3ffd_1f1f) ∷ []
 
 exp2-agrees : T (allPass (gives exp2Of) exp2Rows)
-unfolding allPass gives exp2Rows toBits ofBits exp2Of exp2Within exp2Coefficients clampOf lt horner fractOf floorOf scaleOf value ofInt add sub mul
+unfolding allPass gives exp2Rows toBits ofBits exp2Of exp2Within exp2Coefficients clampOf lt horner fractOf floorOf exp2Scale value ofInt add sub mul
 exp2-agrees = tt
 
 -- ---- log2: what has none, subnormals, the largest number, 1 and neighbours, 1.9999999, 2, 0.5, 2^25; the last two as above

@@ -24,7 +24,7 @@ use Rattle.exact.proofs.Analyser.{Bound, Expr, var, approx, minus, times, Appro
 use Rattle.exact.proofs.Soundness.{plainly}
 use Rattle.exact.proofs.Inputs.{one, one-input, exact-input, covers, concludes, concluded, bounded}
 use Rattle.math.specs.Horner.{horner, hornerℚ}
-use Rattle.math.specs.Formulas.{clampOf, floorOf, fractOf, scaleOf, exp2Coefficients, exp2Within, exp2Of}
+use Rattle.math.specs.Formulas.{clampOf, floorOf, fractOf, exp2Scale, exp2Coefficients, exp2Within, exp2Of}
 use Rattle.math.specs.Series.{terms, factorial, exp2Term, exp2Terms, exp2ℚ}
 use Rattle.math.proofs.SeriesExpr.{polynomial, exactly, nearestTo}
 use Rattle.lists.proofs.Every.{every}
@@ -184,7 +184,7 @@ pub record NearPower (y : Float) (B : Fraction) : Type 0 where
   pub range : Approximates binary32 y B powerBound
 
 within-range : (x : Float) → T (fits binary32 x) → T (finite x) → whole (negsuc 24) ≤ℚ value x → value x ≤ℚ whole (pos 25) → NearPower (exp2Within x) (exp2ℚ (value x))
-unfolding exp2Within exp2ℚ fractOf floorOf scaleOf
+unfolding exp2Within exp2ℚ fractOf floorOf exp2Scale
 within-range nan f t lo hi = absurd t
 within-range (inf s) f t lo hi = absurd t
 within-range (fin s m e) f t lo hi =

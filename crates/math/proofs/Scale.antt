@@ -17,7 +17,7 @@ use borrow.Author.Tests.{ltb-false}
 use Rattle.exact.specs.Fraction.{floorOver, floorℚ}
 use Rattle.exact.specs.Value.{value}
 use Rattle.exact.specs.Binary32.{bits}
-use Rattle.math.specs.Formulas.{clampOf, floorOf, scaleOf}
+use Rattle.math.specs.Formulas.{clampOf, floorOf, exp2Scale}
 use Rattle.lists.proofs.Every.{every, each}
 
 -- ---- the field of z, as an i32 and as a u32
@@ -104,8 +104,8 @@ pub record Scales (w y : Float) : Type 0 where
   pub whole : T (inSigned binary32 31 w)
   pub scaled : Scaled (toSigned 31 w) y
 
-scales : (s : Bool) (m : ℕ) (e : ℤ) → Power (floorℚ (value (fin s m e))) → Scales (floorOf (fin s m e)) (scaleOf (fin s m e))
-unfolding floorOf scaleOf
+scales : (s : Bool) (m : ℕ) (e : ℤ) → Power (floorℚ (value (fin s m e))) → Scales (floorOf (fin s m e)) (exp2Scale (fin s m e))
+unfolding floorOf exp2Scale
 scales s m e h =
     let z = floorℚ (value (fin s m e)) in
     let k = cast z h in
@@ -119,7 +119,7 @@ down-to : (n d : ℕ) → 0 < d → n ≤ 126 * d → Power (floorOver (negℤ (
 down-to zero d p h = up-to 0 d p (omega arith)
 down-to (suc n) d p h = div-lt-iff-lt-mul p .1 h
 
-within : (x : Float) → isNan x ≡ false → lt x least ≡ false → lt most x ≡ false → Scales (floorOf x) (scaleOf x)
+within : (x : Float) → isNan x ≡ false → lt x least ≡ false → lt most x ≡ false → Scales (floorOf x) (exp2Scale x)
 unfolding lt ofBits isNan value
 within nan n l h = absurd (true≢false n)
 within (inf true) n l h = absurd (true≢false l)
@@ -127,19 +127,19 @@ within (inf false) n l h = absurd (true≢false h)
 within (fin false m e) n l h = scales false m e (up-to (m * up e) (down e) (down-pos e) (subst (λ (k : ℕ). k ≤ 127 * down e) (mul-one (m * up e)) (ltb-false (127 * down e) (m * up e * 1) h)))
 within (fin true m e) n l h = scales true m e (down-to (m * up e) (down e) (down-pos e) (subst (λ (k : ℕ). k ≤ 126 * down e) (mul-one (m * up e)) (ltb-false (126 * down e) (m * up e * 1) l)))
 
-at-least : Scales (floorOf least) (scaleOf least)
+at-least : Scales (floorOf least) (exp2Scale least)
 unfolding lt ofBits isNan
 at-least = within least refl refl refl
 
-at-most : Scales (floorOf most) (scaleOf most)
+at-most : Scales (floorOf most) (exp2Scale most)
 unfolding lt ofBits isNan
 at-most = within most refl refl refl
 
-pub clamped : (x : Float) → isNan (clampOf least most x) ≡ false → Scales (floorOf (clampOf least most x)) (scaleOf (clampOf least most x))
+pub clamped : (x : Float) → isNan (clampOf least most x) ≡ false → Scales (floorOf (clampOf least most x)) (exp2Scale (clampOf least most x))
 unfolding clampOf
 clamped x n = go (lt x least) refl (lt most x) refl n
   where
-    go : (t : Bool) → lt x least ≡ t → (u : Bool) → lt most x ≡ u → isNan (cond t least (cond u most x)) ≡ false → Scales (floorOf (cond t least (cond u most x))) (scaleOf (cond t least (cond u most x)))
+    go : (t : Bool) → lt x least ≡ t → (u : Bool) → lt most x ≡ u → isNan (cond t least (cond u most x)) ≡ false → Scales (floorOf (cond t least (cond u most x))) (exp2Scale (cond t least (cond u most x)))
     go true d u e n = at-least
     go false d true e n = at-most
     go false d false e n = within x n d e

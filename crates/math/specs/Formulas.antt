@@ -47,14 +47,14 @@ exp2Coefficients =
     one₃₂ ∷ bits 0x3f31_7218 ∷ bits 0x3e75_fdf0 ∷ bits 0x3d63_5844 ∷ bits 0x3c1d_953c ∷ bits 0x3aae_c423 ∷ bits 0x3921_831d ∷ bits 0x377f_da40 ∷ bits 0x35b1_2adb ∷ []
 
 -- 2 to the floor of a number: the float 1 * 2 ^ floor. No infinity comes here.
-unfoldable pub scaleOf : Float → Float
-scaleOf nan = nan
-scaleOf (inf s) = nan
-scaleOf (fin s m e) = fin false 1 (floorℚ (value (fin s m e)))
+unfoldable pub exp2Scale : Float → Float
+exp2Scale nan = nan
+exp2Scale (inf s) = nan
+exp2Scale (fin s m e) = fin false 1 (floorℚ (value (fin s m e)))
 
 -- of an x from -126 to 127
 unfoldable pub exp2Within : Float → Float
-exp2Within x = horner exp2Coefficients (fractOf x) ⊗ scaleOf x
+exp2Within x = horner exp2Coefficients (fractOf x) ⊗ exp2Scale x
 
 -- Two to the power x, x clamped to -126..127. A NaN gives a NaN.
 unfoldable pub exp2Of : Float → Float

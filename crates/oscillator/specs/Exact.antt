@@ -4,7 +4,7 @@ use mathlib.Core.Bool.{Bool, cond}
 use lib.Dec.{eqb}
 use lib.IntN.{pos, negsuc}
 use lib.Ieee.{Float, lt}
-use Rattle.exact.specs.Fraction.{Fraction, ratio, whole, unitℚ, _+ℚ_, _-ℚ_, _*ℚ_, _/ℚ_}
+use Rattle.exact.specs.Fraction.{Fraction, ratio, whole, clampUnitℚ, _+ℚ_, _-ℚ_, _*ℚ_, _/ℚ_}
 use Rattle.exact.specs.Value.{value}
 use Rattle.curve.specs.Curve.{positionOf}
 use Rattle.settings.specs.declared.Oscillator.{Oscillator}
@@ -27,4 +27,4 @@ unfoldable pub oscillatorℚ : Oscillator → Float → Fraction
 oscillatorℚ o p = cond (eqb (wavesOf o) 0) (ratio 1 2) (ratio 1 2 +ℚ ratio 1 2 *ℚ value (o .level) *ℚ sumℚ o p /ℚ ratio (wavesOf o) 1)
 
 unfoldable pub oscillatorHeightℚ : Oscillator → Float → Fraction
-oscillatorHeightℚ o t = unitℚ (oscillatorℚ o (positionOf t))
+oscillatorHeightℚ o t = clampUnitℚ (oscillatorℚ o (positionOf t))

@@ -18,11 +18,11 @@ use Rattle.generator.specs.declared.Gates.{Gates}
 use Rattle.panel.specs.Labels.{kindText, rowOf}
 
 -- A position across the frame, and a height in it, in hundredths of a millimetre.
-abbrev pub acrossOf : Float → ℕ
-acrossOf x = nearestOf x 5000
+abbrev pub acrossUnits : Float → ℕ
+acrossUnits x = nearestOf x 5000
 
-abbrev pub heightOf : Float → ℕ
-heightOf h = nearestOf h 2500
+abbrev pub heightUnits : Float → ℕ
+heightUnits h = nearestOf h 2500
 
 abbrev pub frameText : List ℕ
 frameText = ascii "<path class='f' d='M0-2500H5000V0H0Z'/>"
@@ -32,12 +32,12 @@ titleText title = ascii "<text class='t' y='-2930'>" ++ title ++ ascii "</text>"
 
 -- The level where the shape does nothing, dashed.
 unfoldable pub restText : Float → List ℕ
-restText r = ascii "<path class='r' d='M0-" ++ decimalOf (heightOf r) ++ ascii "H5000'/>"
+restText r = ascii "<path class='r' d='M0-" ++ decimalOf (heightUnits r) ++ ascii "H5000'/>"
 
 -- ---- the curve
 -- Sample i: 0.1 mm to the right of the one before it.
 unfoldable pub pointText : ℕ → Float → List ℕ
-pointText i h = decimalOf (10 * i) ++ ascii ",-" ++ decimalOf (heightOf h) ++ ascii " "
+pointText i h = decimalOf (10 * i) ++ ascii ",-" ++ decimalOf (heightUnits h) ++ ascii " "
 
 -- The first k samples.
 unfoldable pub pointsText : List Float → ℕ → List ℕ
@@ -66,7 +66,7 @@ labelText row across kind = ascii "<text x='" ++ decimalOf across ++ ascii "' y=
 
 -- A mark past an edge is drawn at the edge.
 unfoldable pub markText : ℕ → Mark → List ℕ
-markText row m = ruleText row (acrossOf (m .at)) ++ labelText row (acrossOf (m .at)) (m .kind)
+markText row m = ruleText row (acrossUnits (m .at)) ++ labelText row (acrossUnits (m .at)) (m .kind)
 
 -- Mark number k; past the places, which no use reaches, an attack at a NaN.
 abbrev pub markAt : List Mark → ℕ → Mark
@@ -85,7 +85,7 @@ marksText m = rulesText (m .places) (min (m .count) 6)
 -- A bar from one step's place to another's: a step is a quarter of the frame.
 unfoldable pub barText : Gate → List ℕ
 barText g =
-    ascii "<path class='g' d='M" ++ decimalOf (acrossOf (g .start ⊘ bits 0x4080_0000)) ++ ascii " 0V-1500H" ++ decimalOf (acrossOf (g .end ⊘ bits 0x4080_0000)) ++ ascii "V0Z'/>"
+    ascii "<path class='g' d='M" ++ decimalOf (acrossUnits (g .start ⊘ bits 0x4080_0000)) ++ ascii " 0V-1500H" ++ decimalOf (acrossUnits (g .end ⊘ bits 0x4080_0000)) ++ ascii "V0Z'/>"
 
 -- Bar number k; past the places, which no use reaches, a bar of NaNs.
 abbrev pub barAt : List Gate → ℕ → Gate

@@ -1,6 +1,6 @@
 // The pieces of a panel: title, frame, rest level, curve, marks, and the bars of the arpeggio.
 ghost use mathlib.Core.Path.{_≡_};
-ghost use Prim.Native.Nat.{_<_, _≤_, min};
+ghost use Prim.Native.Nat.{_<_, _≤_};
 ghost use lib.ListN.{length};
 ghost use Rattle.text.specs.Text.{Puts};
 ghost use Rattle.panel.specs.Labels.{wholeOf, turnsText, scaleText, edgeText, subtitleText, segmentText, kindText, rowOf};
@@ -15,6 +15,7 @@ use generator::MarkKind;
 use generator::Marks;
 use generator::Scale;
 use generator::Segment;
+use lists::at_most;
 use text::put;
 use text::put_decimal;
 
@@ -99,16 +100,6 @@ fn put_point(out: &mut [u8], at: usize, i: usize, h: f32) -> usize
     next = put(out, next, b",-");
     next = put_decimal(out, next, nearest(h, 2500));
     put(out, next, b" ")
-}
-
-// The smaller of a count and the most that there can be.
-fn at_most(count: usize, most: usize) -> usize
-    ensures { λ r. ⌜ (r ≡ min count most) × (r ≤ count) × (r ≤ most) ⌝ }
-{
-    if count < most {
-        return count;
-    }
-    most
 }
 
 fn put_points(out: &mut [u8], at: usize, heights: &[f32], count: usize) -> usize

@@ -8,7 +8,7 @@ use lib.Ieee.{Float, nan, binary32, toBits}
 use Rattle.text.specs.Text.{ascii}
 use Rattle.text.specs.Spelled.{hexOf, fixedOf}
 use Rattle.fixed_point.specs.Nearest.{nearestOf}
-use Rattle.strip.specs.Strip.{sampleOf}
+use Rattle.strip.specs.Strip.{samplePosition}
 
 -- A number from 0 to 1 in nine places.
 unfoldable pub ninePlaces : Float → List ℕ
@@ -24,7 +24,7 @@ rowText position height = decimalsText position height ++ hexOf (toBits binary32
 
 -- The row of sample i.
 unfoldable pub sampleText : List Float → ℕ → List ℕ
-sampleText heights i = rowText (sampleOf (length heights) i) (getD heights i nan)
+sampleText heights i = rowText (samplePosition (length heights) i) (getD heights i nan)
 
 -- The rows of the first k samples.
 unfoldable pub someRows : List Float → ℕ → List ℕ

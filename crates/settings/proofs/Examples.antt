@@ -8,7 +8,7 @@ use lib.Dec.{T, eqb}
 use lib.Ieee.{Float, binary32, ofBits, toBits, ofInt, add, sub, mul, div, neg, lt}
 use Rattle.exact.specs.Value.{value}
 use Rattle.math.specs.Horner.{horner}
-use Rattle.math.specs.Formulas.{clampOf, floorOf, fractOf, scaleOf, exp2Coefficients, exp2Within, exp2Of}
+use Rattle.math.specs.Formulas.{clampOf, floorOf, fractOf, exp2Scale, exp2Coefficients, exp2Within, exp2Of}
 use Rattle.lists.proofs.Rows.{allPass}
 use Rattle.settings.specs.declared.LfoShape.{LfoShape}
 use Rattle.settings.specs.declared.LfoShape.the-variants.{Sine, Triangle, Square, RampUp, RampDown, SampleAndHold, SampleAndGlide}
@@ -16,7 +16,7 @@ use Rattle.settings.specs.declared.Pass.{Pass}
 use Rattle.settings.specs.declared.Pass.the-variants.{Low, High}
 use Rattle.settings.specs.declared.Oscillator.{Oscillator}
 use Rattle.settings.specs.declared.Filter.{Filter}
-use Rattle.settings.specs.Settings.{byteOf, totalOf, firstOf, secondOf, thirdOf, slopeOf, sloped, sustainEndOf, bendOf, envelopeOf, shapeOf, turnsOf, lfoOf, fadeOf, poleSlopeOf, lowPassOf, highPassOf, depthOf, widthOf, sweepOf, oscillatorOneOf, oscillatorTwoOf, noiseOf}
+use Rattle.settings.specs.Settings.{byteOf, totalOf, firstOf, secondOf, thirdOf, slopeOf, sloped, sustainEndOf, bendOf, envelopeOf, lfoShapeOf, turnsOf, lfoOf, fadeOf, poleSlopeOf, lowPassOf, highPassOf, depthOf, widthOf, sweepOf, oscillatorOneOf, oscillatorTwoOf, noiseOf}
 
 -- the float has these bits; the switch is on where the number is 1
 is : Float → ℕ → Bool
@@ -48,7 +48,7 @@ bendRow : ℕ × ℕ → Bool
 bendRow r = is (bendOf (r .0)) (r .1)
 
 bend-agrees : T (allPass bendRow bendRows)
-unfolding allPass bendRow bendRows is switched toBits ofBits ofInt bendOf exp2Of exp2Within exp2Coefficients clampOf lt horner fractOf floorOf scaleOf value add sub mul div
+unfolding allPass bendRow bendRows is switched toBits ofBits ofInt bendOf exp2Of exp2Within exp2Coefficients clampOf lt horner fractOf floorOf exp2Scale value add sub mul div
 bend-agrees = tt
 
 -- ---- an envelope's ends, by attack, decay and release: with no release the third is 1, just below 1 (255 and 254) or just above it (255 and 193)
@@ -93,7 +93,7 @@ envelopeRow r =
     && is (e .«attack_bend») (r .13) && is (e .«decay_bend») (r .14) && is (e .«release_bend») (r .15)
 
 envelope-agrees : T (allPass envelopeRow envelopeRows)
-unfolding allPass envelopeRow envelopeRows is switched toBits ofBits ofInt envelopeOf firstOf secondOf thirdOf totalOf byteOf sustainEndOf sloped slopeOf bendOf exp2Of exp2Within exp2Coefficients clampOf lt horner fractOf floorOf scaleOf value neg add sub mul div
+unfolding allPass envelopeRow envelopeRows is switched toBits ofBits ofInt envelopeOf firstOf secondOf thirdOf totalOf byteOf sustainEndOf sloped slopeOf bendOf exp2Of exp2Within exp2Coefficients clampOf lt horner fractOf floorOf exp2Scale value neg add sub mul div
 envelope-agrees = tt
 
 -- ---- an LFO, by its shape byte, which is its sync byte too, and a slew of 77: the shape's number, the turns, the slew, whether it is synced
@@ -117,7 +117,7 @@ shapeRow : ℕ × ℕ × ℕ × ℕ × ℕ → Bool
 shapeRow r = let l = lfoOf (r .0) 77 (r .0) false in eqb (numberOf (l .shape)) (r .1) && is (l .turns) (r .2) && is (l .slew) (r .3) && switched (l .synced) (r .4)
 
 shape-agrees : T (allPass shapeRow shapeRows)
-unfolding allPass shapeRow shapeRows is switched toBits ofBits ofInt numberOf lfoOf shapeOf turnsOf byteOf div
+unfolding allPass shapeRow shapeRows is switched toBits ofBits ofInt numberOf lfoOf lfoShapeOf turnsOf byteOf div
 shape-agrees = tt
 
 -- ---- a fade

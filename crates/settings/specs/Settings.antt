@@ -66,8 +66,8 @@ envelopeOf a d s r ac dc sc rc =
 
 -- ---- LFO
 -- 0 to 6 name a shape; 7 to 255 are Sine.
-unfoldable pub shapeOf : ℕ → LfoShape
-shapeOf b =
+unfoldable pub lfoShapeOf : ℕ → LfoShape
+lfoShapeOf b =
     cond (eqb b 1) Triangle
     (cond (eqb b 2) Square
     (cond (eqb b 3) RampUp
@@ -90,7 +90,7 @@ abbrev pub isOn : ℕ → Bool
 isOn b = not (eqb b 0)
 
 unfoldable pub lfoOf : ℕ → ℕ → ℕ → Bool → Lfo
-lfoOf shape slew sync unipolar = record { shape = shapeOf shape; turns = turnsOf (shapeOf shape); slew = byteOf slew; unipolar = unipolar; synced = isOn sync }
+lfoOf shape slew sync unipolar = record { shape = lfoShapeOf shape; turns = turnsOf (lfoShapeOf shape); slew = byteOf slew; unipolar = unipolar; synced = isOn sync }
 
 -- ---- fade
 unfoldable pub fadeOf : ℕ → Fade

@@ -1,6 +1,6 @@
 // The settings that a program's bytes give each generator: plain data, built by value.
 ghost use mathlib.Core.Path.{_≡_};
-ghost use Rattle.settings.specs.Settings.{byteOf, bendOf, sustainEndOf, envelopeOf, shapeOf, turnsOf, lfoOf, fadeOf, lowPassOf, highPassOf, poleSlopeOf, isManual, oscillatorOneOf, oscillatorTwoOf, noiseOf};
+ghost use Rattle.settings.specs.Settings.{byteOf, bendOf, sustainEndOf, envelopeOf, lfoShapeOf, turnsOf, lfoOf, fadeOf, lowPassOf, highPassOf, poleSlopeOf, isManual, oscillatorOneOf, oscillatorTwoOf, noiseOf};
 use math::exp2;
 use math::from_u16;
 
@@ -129,7 +129,7 @@ pub fn envelope_from(
 
 // ---- LFO
 pub fn shape_from(raw: u8) -> LfoShape
-    ensures { λ r. ⌜ r ≡ shapeOf raw ⌝ }
+    ensures { λ r. ⌜ r ≡ lfoShapeOf raw ⌝ }
 {
     match raw {
         0 => LfoShape::Sine,

@@ -10,18 +10,18 @@ use Rattle.exact.specs.Binary32.{zero₃₂, half₃₂, one₃₂}
 use Rattle.math.specs.Formulas.{clampOf, floorOf, fractOf}
 use Rattle.lists.proofs.Rows.{allPass}
 use Rattle.curve.specs.Curve.{positionOf, drawnOf}
-use Rattle.settings.specs.Settings.{byteOf, shapeOf, turnsOf, lfoOf}
+use Rattle.settings.specs.Settings.{byteOf, lfoShapeOf, turnsOf, lfoOf}
 use Rattle.lfo_shapes.specs.Formula.{wrapOf, triangleOf, shapeAtOf}
 use Rattle.lfo.specs.Formula.{stepOf, placeOf, fullFrom, fullSteps, walkedOf, lfoHeightOf}
 use Rattle.generator.specs.declared.Shape.{Shape}
 use Rattle.generator.specs.declared.Shape.the-variants.{Lfo as AnLfo}
 use Rattle.generator.specs.Heights.{heightOf}
-use Rattle.strip.specs.Strip.{sampleOf, lengthFits, stepSum, stepsOf, stripOf}
+use Rattle.strip.specs.Strip.{samplePosition, lengthFits, stepSum, stepsOf, stripOf}
 use Rattle.lists.specs.Written.{written}
 
 -- ---- sample i of n, and the bits of its position
 placed : ℕ × ℕ × ℕ → Bool
-placed r = eqb (toBits binary32 (sampleOf (r .0) (r .1))) (r .2)
+placed r = eqb (toBits binary32 (samplePosition (r .0) (r .1))) (r .2)
 
 places : List (ℕ × ℕ × ℕ)
 places =
@@ -29,7 +29,7 @@ places =
     ∷ (4096, 1, 0x3980_0801) ∷ (4096, 2048, 0x3f00_0801) ∷ (4096, 4094, 0x3f7f_efff) ∷ (4096, 4095, 0x3f80_0000) ∷ []
 
 places-known : T (allPass placed places)
-unfolding allPass placed places sampleOf toBits ofBits ofInt div
+unfolding allPass placed places samplePosition toBits ofBits ofInt div
 places-known = tt
 
 lengths-known : T (not (lengthFits 1) && lengthFits 2 && lengthFits 4096 && not (lengthFits 4097))
@@ -40,10 +40,10 @@ triangle : ℕ → Shape
 triangle slew = AnLfo (lfoOf 1 slew 0 true)
 
 triangle-strip : stripOf (triangle 0) (one₃₂ ∷ one₃₂ ∷ one₃₂ ∷ one₃₂ ∷ one₃₂ ∷ []) ≡ zero₃₂ ∷ half₃₂ ∷ one₃₂ ∷ half₃₂ ∷ zero₃₂ ∷ []
-unfolding triangle stripOf written heightOf lfoHeightOf drawnOf shapeAtOf triangleOf wrapOf positionOf sampleOf clampOf floorOf fractOf value lfoOf shapeOf turnsOf byteOf toBits ofBits ofInt isNan lt le eq neg add sub mul div
+unfolding triangle stripOf written heightOf lfoHeightOf drawnOf shapeAtOf triangleOf wrapOf positionOf samplePosition clampOf floorOf fractOf value lfoOf lfoShapeOf turnsOf byteOf toBits ofBits ofInt isNan lt le eq neg add sub mul div
 triangle-strip = refl
 
 -- The walk to phase 0 has 96 steps, that to phase 1 has 192.
 slewed-steps : stepsOf (triangle 1) 2 ≡ 288
-unfolding triangle stepsOf stepSum heightOf lfoHeightOf walkedOf fullSteps fullFrom placeOf stepOf drawnOf positionOf sampleOf clampOf lfoOf shapeOf turnsOf byteOf toBits ofBits ofInt isNan lt le eq neg add sub mul div
+unfolding triangle stepsOf stepSum heightOf lfoHeightOf walkedOf fullSteps fullFrom placeOf stepOf drawnOf positionOf samplePosition clampOf lfoOf lfoShapeOf turnsOf byteOf toBits ofBits ofInt isNan lt le eq neg add sub mul div
 slewed-steps = refl

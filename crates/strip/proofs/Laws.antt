@@ -9,16 +9,16 @@ use lib.Ieee.{Float, nan, le}
 use Rattle.exact.specs.Binary32.{_⊗_, zero₃₂}
 use Rattle.curve.specs.declared.Height.{Height}
 use Rattle.curve.specs.Curve.{positionOf, drawnOf}
-use Rattle.envelope.specs.Formula as envelope
+use Rattle.envelope.specs.Formula.{envelopeHeightOf}
 use Rattle.fade.specs.Formula.{fadeHeightOf}
 use Rattle.oscillator.specs.Formula.{oscillatorHeightOf}
 use Rattle.noise.specs.Formula.{noiseHeightOf}
-use Rattle.filter.specs.Formula as filter
+use Rattle.filter.specs.Formula.{filterHeightOf}
 use Rattle.lfo.specs.Formula.{placeOf, fullFrom, fullSteps, walkedOf, lfoHeightOf}
 use Rattle.generator.specs.declared.Shape.{Shape}
 use Rattle.generator.specs.declared.Shape.the-variants.{Envelope as AnEnvelope, Fade as AFade, Lfo as AnLfo, Filter as AFilter, Oscillator as AnOscillator, Noise as ANoise}
 use Rattle.generator.specs.Heights.{heightOf}
-use Rattle.strip.specs.Strip.{sampleOf, filledOf, stepSum}
+use Rattle.strip.specs.Strip.{samplePosition, filledOf, stepSum}
 use Rattle.lists.proofs.Written.{written-length, written-at}
 
 -- ---- the steps of one height, whatever the settings and the position
@@ -32,7 +32,7 @@ full-at-most phase (suc n) k = go (le phase (placeOf (suc k))) (full-at-most pha
     go false h = omega arith
 
 pub height-steps : (s : Shape) (t : Float) → heightOf s t .steps ≤ 65535
-unfolding heightOf envelope.heightOf fadeHeightOf filter.heightOf oscillatorHeightOf noiseHeightOf drawnOf lfoHeightOf walkedOf fullSteps
+unfolding heightOf envelopeHeightOf fadeHeightOf filterHeightOf oscillatorHeightOf noiseHeightOf drawnOf lfoHeightOf walkedOf fullSteps
 height-steps (AnEnvelope e) t = omega arith
 height-steps (AFade f) t = omega arith
 height-steps (AnLfo l) t = go (le (l .slew) zero₃₂) _ _ (omega arith) (omega (arith, full-at-most (positionOf t ⊗ l .turns) 65534 0))
@@ -48,11 +48,11 @@ height-steps (ANoise n) t = omega arith
 pub sum-at-most : (s : Shape) (n k : ℕ) → stepSum s n k ≤ 65535 * k
 unfolding stepSum
 sum-at-most s n zero = omega arith
-sum-at-most s n (suc k) = omega (arith, sum-at-most s n k, height-steps s (sampleOf n k))
+sum-at-most s n (suc k) = omega (arith, sum-at-most s n k, height-steps s (samplePosition n k))
 
 -- ---- the samples of a strip that is filled
 pub filled-length : (s : Shape) (n : ℕ) (xs : List Float) → length (filledOf s n n xs) ≡ length xs
-filled-length s n xs = written-length (λ (i : ℕ). heightOf s (sampleOf n i) .height) n xs
+filled-length s n xs = written-length (λ (i : ℕ). heightOf s (samplePosition n i) .height) n xs
 
-pub filled-at : (s : Shape) (n : ℕ) (xs : List Float) (i : ℕ) → n ≤ length xs → i < n → getD (filledOf s n n xs) i nan ≡ heightOf s (sampleOf n i) .height
-filled-at s n xs i h l = written-at (λ (i : ℕ). heightOf s (sampleOf n i) .height) nan n xs i h l
+pub filled-at : (s : Shape) (n : ℕ) (xs : List Float) (i : ℕ) → n ≤ length xs → i < n → getD (filledOf s n n xs) i nan ≡ heightOf s (samplePosition n i) .height
+filled-at s n xs i h l = written-at (λ (i : ℕ). heightOf s (samplePosition n i) .height) nan n xs i h l

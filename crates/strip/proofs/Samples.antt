@@ -11,12 +11,12 @@ use lib.Ieee.{Float, nan, binary32, ofInt, fits}
 use lib.Ieee.Fits.{div-fits}
 use Rattle.generator.specs.declared.Shape.{Shape}
 use Rattle.generator.specs.Heights.{heightOf}
-use Rattle.strip.specs.Strip.{sampleOf, lengthFits, filledOf, stripOf}
+use Rattle.strip.specs.Strip.{samplePosition, lengthFits, filledOf, stripOf}
 use Rattle.strip.proofs.Laws.{filled-length, filled-at}
 
 -- The position of a sample is a float.
-pub sample-fits : (n i : ℕ) → T (fits binary32 (sampleOf n i))
-unfolding sampleOf
+pub sample-fits : (n i : ℕ) → T (fits binary32 (samplePosition n i))
+unfolding samplePosition
 sample-fits n i = div-fits binary32 (ofInt binary32 (pos i)) _
 
 pub strip-length : (s : Shape) (xs : List Float) → length (stripOf s xs) ≡ length xs
@@ -27,10 +27,10 @@ strip-length s xs = go (lengthFits (length xs))
     go true = filled-length s (length xs) xs
     go false = refl
 
-pub strip-at : (s : Shape) (xs : List Float) → T (lengthFits (length xs)) → (i : ℕ) → i < length xs → getD (stripOf s xs) i nan ≡ heightOf s (sampleOf (length xs) i) .height
+pub strip-at : (s : Shape) (xs : List Float) → T (lengthFits (length xs)) → (i : ℕ) → i < length xs → getD (stripOf s xs) i nan ≡ heightOf s (samplePosition (length xs) i) .height
 unfolding stripOf
 strip-at s xs t i h = go (lengthFits (length xs)) t
   where
-    go : (b : Bool) → T b → getD (cond b (filledOf s (length xs) (length xs) xs) xs) i nan ≡ heightOf s (sampleOf (length xs) i) .height
+    go : (b : Bool) → T b → getD (cond b (filledOf s (length xs) (length xs) xs) xs) i nan ≡ heightOf s (samplePosition (length xs) i) .height
     go true u = filled-at s (length xs) xs i (omega arith) h
     go false u = absurd u

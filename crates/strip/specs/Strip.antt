@@ -16,8 +16,8 @@ abbrev pub partOf : ℕ → ℕ → Float
 partOf i last = ofInt binary32 (pos i) ⊘ ofInt binary32 (pos last)
 
 -- The position of sample i of n: i / (n - 1).
-unfoldable pub sampleOf : ℕ → ℕ → Float
-sampleOf n i = partOf i (n - 1)
+unfoldable pub samplePosition : ℕ → ℕ → Float
+samplePosition n i = partOf i (n - 1)
 
 -- The lengths of a strip: 2 to 4,096.
 abbrev pub lengthFits : ℕ → Bool
@@ -25,12 +25,12 @@ lengthFits n = leb 2 n && leb n 4096
 
 -- A strip with the first k of n samples written: sample i holds the height at its own position.
 abbrev pub filledOf : Shape → ℕ → ℕ → List Float → List Float
-filledOf s n k xs = written (λ (i : ℕ). heightOf s (sampleOf n i) .height) k xs
+filledOf s n k xs = written (λ (i : ℕ). heightOf s (samplePosition n i) .height) k xs
 
 -- The steps of the first k of n samples.
 unfoldable pub stepSum : Shape → ℕ → ℕ → ℕ
 stepSum s n zero = 0
-stepSum s n (suc k) = stepSum s n k + heightOf s (sampleOf n k) .steps
+stepSum s n (suc k) = stepSum s n k + heightOf s (samplePosition n k) .steps
 
 -- What is answered for a strip of n samples: the steps of all, none where that length is refused.
 unfoldable pub stepsOf : Shape → ℕ → ℕ

@@ -5,11 +5,10 @@ ghost use Prim.Native.Nat.{_-_, _≤_};
 ghost use lib.ListN.{length};
 ghost use lib.Ieee.{le};
 ghost use Rattle.exact.specs.Binary32.{zero₃₂};
-ghost use Rattle.strip.specs.Strip.{partOf, lengthFits, stepsOf, stripOf};
+ghost use Rattle.strip.specs.Strip.{partOf, lengthFits, filledOf, stepSum};
 use envelope::envelope_height;
 use fade::fade_height;
 use filter::filter_height;
-use generator::Generator;
 use generator::Shape;
 use lfo::slewed_height;
 use lfo::unslewed_height;
@@ -50,15 +49,13 @@ pub fn fits(n: usize) -> bool
     MIN_SAMPLES <= n && n <= MAX_SAMPLES
 }
 
-// ---- a loop for each family: the generator is told apart once, and not at every sample. A strip of another length is left as it was. Each answers the sum of the steps, which only an LFO's
-// heights take.
+// ---- a loop for each family, so that the family is matched once and not at every sample. The caller has tested the length. Each answers the sum of the steps, which only an
+// LFO's heights take.
 pub fn fill_envelope(e: Envelope, out: &mut [f32]) -> u32
-    ensures { λ r. ⌜ (r ≡ stepsOf (Shape.Envelope e) (length (now (out .entry)))) × (now (out .exit) ≡ stripOf (Shape.Envelope e) (now (out .entry))) ⌝ }
+    requires { ⌜ (2 ≤ length (now out)) × (length (now out) ≤ 4096) ⌝ }
+    ensures { λ r. ⌜ (r ≡ stepSum (Shape.Envelope e) (length (now (out .entry))) (length (now (out .entry)))) × (now (out .exit) ≡ filledOf (Shape.Envelope e) (length (now (out .entry))) (length (now (out .entry))) (now (out .entry))) ⌝ }
 {
     let n = out.len();
-    if !fits(n) {
-        return 0;
-    }
     let last = last_of(n);
     let mut i: usize = 0;
     while i < n {
@@ -69,12 +66,10 @@ pub fn fill_envelope(e: Envelope, out: &mut [f32]) -> u32
 }
 
 pub fn fill_fade(f: Fade, out: &mut [f32]) -> u32
-    ensures { λ r. ⌜ (r ≡ stepsOf (Shape.Fade f) (length (now (out .entry)))) × (now (out .exit) ≡ stripOf (Shape.Fade f) (now (out .entry))) ⌝ }
+    requires { ⌜ (2 ≤ length (now out)) × (length (now out) ≤ 4096) ⌝ }
+    ensures { λ r. ⌜ (r ≡ stepSum (Shape.Fade f) (length (now (out .entry))) (length (now (out .entry)))) × (now (out .exit) ≡ filledOf (Shape.Fade f) (length (now (out .entry))) (length (now (out .entry))) (now (out .entry))) ⌝ }
 {
     let n = out.len();
-    if !fits(n) {
-        return 0;
-    }
     let last = last_of(n);
     let mut i: usize = 0;
     while i < n {
@@ -85,12 +80,10 @@ pub fn fill_fade(f: Fade, out: &mut [f32]) -> u32
 }
 
 pub fn fill_filter(f: Filter, out: &mut [f32]) -> u32
-    ensures { λ r. ⌜ (r ≡ stepsOf (Shape.Filter f) (length (now (out .entry)))) × (now (out .exit) ≡ stripOf (Shape.Filter f) (now (out .entry))) ⌝ }
+    requires { ⌜ (2 ≤ length (now out)) × (length (now out) ≤ 4096) ⌝ }
+    ensures { λ r. ⌜ (r ≡ stepSum (Shape.Filter f) (length (now (out .entry))) (length (now (out .entry)))) × (now (out .exit) ≡ filledOf (Shape.Filter f) (length (now (out .entry))) (length (now (out .entry))) (now (out .entry))) ⌝ }
 {
     let n = out.len();
-    if !fits(n) {
-        return 0;
-    }
     let last = last_of(n);
     let mut i: usize = 0;
     while i < n {
@@ -101,12 +94,10 @@ pub fn fill_filter(f: Filter, out: &mut [f32]) -> u32
 }
 
 pub fn fill_oscillator(o: Oscillator, out: &mut [f32]) -> u32
-    ensures { λ r. ⌜ (r ≡ stepsOf (Shape.Oscillator o) (length (now (out .entry)))) × (now (out .exit) ≡ stripOf (Shape.Oscillator o) (now (out .entry))) ⌝ }
+    requires { ⌜ (2 ≤ length (now out)) × (length (now out) ≤ 4096) ⌝ }
+    ensures { λ r. ⌜ (r ≡ stepSum (Shape.Oscillator o) (length (now (out .entry))) (length (now (out .entry)))) × (now (out .exit) ≡ filledOf (Shape.Oscillator o) (length (now (out .entry))) (length (now (out .entry))) (now (out .entry))) ⌝ }
 {
     let n = out.len();
-    if !fits(n) {
-        return 0;
-    }
     let last = last_of(n);
     let mut i: usize = 0;
     while i < n {
@@ -117,12 +108,10 @@ pub fn fill_oscillator(o: Oscillator, out: &mut [f32]) -> u32
 }
 
 pub fn fill_noise(s: Noise, out: &mut [f32]) -> u32
-    ensures { λ r. ⌜ (r ≡ stepsOf (Shape.Noise s) (length (now (out .entry)))) × (now (out .exit) ≡ stripOf (Shape.Noise s) (now (out .entry))) ⌝ }
+    requires { ⌜ (2 ≤ length (now out)) × (length (now out) ≤ 4096) ⌝ }
+    ensures { λ r. ⌜ (r ≡ stepSum (Shape.Noise s) (length (now (out .entry))) (length (now (out .entry)))) × (now (out .exit) ≡ filledOf (Shape.Noise s) (length (now (out .entry))) (length (now (out .entry))) (now (out .entry))) ⌝ }
 {
     let n = out.len();
-    if !fits(n) {
-        return 0;
-    }
     let last = last_of(n);
     let mut i: usize = 0;
     while i < n {
@@ -132,15 +121,13 @@ pub fn fill_noise(s: Noise, out: &mut [f32]) -> u32
     0
 }
 
-// An LFO without slew, and one with: that too is told apart once.
+// An LFO without slew, and one with.
 fn fill_unslewed(l: Lfo, out: &mut [f32]) -> u32
     requires { ⌜ le (l .slew) zero₃₂ ≡ true ⌝ }
-    ensures { λ r. ⌜ (r ≡ stepsOf (Shape.Lfo l) (length (now (out .entry)))) × (now (out .exit) ≡ stripOf (Shape.Lfo l) (now (out .entry))) ⌝ }
+    requires { ⌜ (2 ≤ length (now out)) × (length (now out) ≤ 4096) ⌝ }
+    ensures { λ r. ⌜ (r ≡ stepSum (Shape.Lfo l) (length (now (out .entry))) (length (now (out .entry)))) × (now (out .exit) ≡ filledOf (Shape.Lfo l) (length (now (out .entry))) (length (now (out .entry))) (now (out .entry))) ⌝ }
 {
     let n = out.len();
-    if !fits(n) {
-        return 0;
-    }
     let last = last_of(n);
     let mut i: usize = 0;
     while i < n {
@@ -152,12 +139,10 @@ fn fill_unslewed(l: Lfo, out: &mut [f32]) -> u32
 
 fn fill_slewed(l: Lfo, out: &mut [f32]) -> u32
     requires { ⌜ le (l .slew) zero₃₂ ≡ false ⌝ }
-    ensures { λ r. ⌜ (r ≡ stepsOf (Shape.Lfo l) (length (now (out .entry)))) × (now (out .exit) ≡ stripOf (Shape.Lfo l) (now (out .entry))) ⌝ }
+    requires { ⌜ (2 ≤ length (now out)) × (length (now out) ≤ 4096) ⌝ }
+    ensures { λ r. ⌜ (r ≡ stepSum (Shape.Lfo l) (length (now (out .entry))) (length (now (out .entry)))) × (now (out .exit) ≡ filledOf (Shape.Lfo l) (length (now (out .entry))) (length (now (out .entry))) (now (out .entry))) ⌝ }
 {
     let count = out.len();
-    if !fits(count) {
-        return 0;
-    }
     let last = last_of(count);
     let mut total: u32 = 0;
     let mut i: usize = 0;
@@ -171,25 +156,11 @@ fn fill_slewed(l: Lfo, out: &mut [f32]) -> u32
 }
 
 pub fn fill_lfo(l: Lfo, out: &mut [f32]) -> u32
-    ensures { λ r. ⌜ (r ≡ stepsOf (Shape.Lfo l) (length (now (out .entry)))) × (now (out .exit) ≡ stripOf (Shape.Lfo l) (now (out .entry))) ⌝ }
+    requires { ⌜ (2 ≤ length (now out)) × (length (now out) ≤ 4096) ⌝ }
+    ensures { λ r. ⌜ (r ≡ stepSum (Shape.Lfo l) (length (now (out .entry))) (length (now (out .entry)))) × (now (out .exit) ≡ filledOf (Shape.Lfo l) (length (now (out .entry))) (length (now (out .entry))) (now (out .entry))) ⌝ }
 {
     if l.slew <= 0.0 {
         return fill_unslewed(l, out);
     }
     fill_slewed(l, out)
-}
-
-// The same of a generator, by its family.
-pub fn fill(g: Generator, out: &mut [f32]) -> u32
-    ensures { λ r. ⌜ (r ≡ stepsOf (g .shape) (length (now (out .entry)))) × (now (out .exit) ≡ stripOf (g .shape) (now (out .entry))) ⌝ }
-{
-    let shape = g.shape;
-    match shape {
-        Shape::Envelope(e) => fill_envelope(e, out),
-        Shape::Fade(f) => fill_fade(f, out),
-        Shape::Lfo(l) => fill_lfo(l, out),
-        Shape::Filter(f) => fill_filter(f, out),
-        Shape::Oscillator(o) => fill_oscillator(o, out),
-        Shape::Noise(s) => fill_noise(s, out),
-    }
 }

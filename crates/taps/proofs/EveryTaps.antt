@@ -11,7 +11,7 @@ use Rattle.math.specs.Formulas.{absOf, maxOf}
 use Rattle.curve.specs.Curve.{positionOf, drawnOf}
 use Rattle.curve.proofs.Positions.{Level, unit-level}
 use Rattle.taps.specs.declared.Taps.{Taps}
-use Rattle.taps.specs.Formula.{width, usedOf, atOf, tallOf, spikeOf, tapHeightOf, tapsLevelOf, tapsHeightOf}
+use Rattle.taps.specs.Formula.{tapWidth, usedOf, atOf, tallOf, spikeOf, tapHeightOf, tapsLevelOf, tapsHeightOf}
 use Rattle.taps.proofs.Maximum.{Number, max-nan, max-number}
 
 -- ---- what adds nothing
@@ -32,7 +32,7 @@ infinite-position s tall (fin t m e) h = refl
 
 pub nan-height : (at p h : Float) → T (not (isNan h)) → tapHeightOf at nan p h ≡ h
 unfolding tapHeightOf mul
-nan-height at p h n = go (lt (absOf (p ⊖ at)) width) (max-nan h n)
+nan-height at p h n = go (lt (absOf (p ⊖ at)) tapWidth) (max-nan h n)
   where
     go : (b : Bool) → maxOf h nan ≡ h → cond b (maxOf h nan) h ≡ h
     go true e = e
@@ -44,7 +44,7 @@ spike-fits tall d = mul-fits binary32 tall _
 
 tap-number : (at tall p h : Float) → Number h → Number (tapHeightOf at tall p h)
 unfolding tapHeightOf
-tap-number at tall p h n = go (lt (absOf (p ⊖ at)) width)
+tap-number at tall p h n = go (lt (absOf (p ⊖ at)) tapWidth)
   where
     spike : Float
     spike = spikeOf tall (absOf (p ⊖ at))

@@ -15,7 +15,8 @@ use Rattle.curve.specs.Curve.{positionOf, drawnOf}
 use Rattle.curve.proofs.Positions.{Level}
 use Rattle.generator.specs.declared.Mark.{Mark}
 use Rattle.generator.specs.declared.Marks.{Marks}
-use Rattle.generator.specs.Marks.{kindNumber, placesOf, countOf, stored}
+use Rattle.generator.specs.Marks.{kindNumber, countOf, stored}
+use Rattle.lists.specs.Padded.{padded}
 use Rattle.taps.specs.declared.Taps.{Taps}
 use Rattle.taps.specs.Formula.{usedOf, atOf, tallOf, tapHeightOf, tapsLevelOf, tapsHeightOf}
 use Rattle.taps.specs.Marks.{tapMarks}
@@ -50,7 +51,7 @@ outside = taps (0xbc23_d70a ∷ 0x3f81_47ae ∷ 0x3f00_0000 ∷ 0x3e99_999a ∷ 
 
 -- the first of these is within the ranges that the bound asks for
 plain-range : TapsRange (plain 4)
-unfolding plain taps floats usedOf fits le lt eq ofBits
+unfolding plain taps floats fits le lt eq ofBits
 plain-range = record { holds = holds; at = at; tall = tall }
   where
     holds : (i : ℕ) → i < 4 → T (fits binary32 (atOf (plain 4) i))
@@ -92,7 +93,7 @@ gives : Taps × ℕ × ℕ → Bool
 gives r = eqb (toBits binary32 (tapsHeightOf (r .0) (bits (r .1)) .height)) (r .2)
 
 heights-agree : T (allPass gives heightRows)
-unfolding allPass gives heightRows plain noNumbers together outside taps floats toBits ofBits isNan lt eq neg add sub mul div absOf maxOf clampOf positionOf drawnOf usedOf tapHeightOf tapsLevelOf tapsHeightOf
+unfolding allPass gives heightRows plain noNumbers together outside taps floats toBits ofBits isNan lt eq neg add sub mul div absOf maxOf clampOf positionOf drawnOf tapHeightOf tapsLevelOf tapsHeightOf
 heights-agree = tt
 
 -- ---- marks: the bits of their positions, each of the kind Tap
@@ -115,5 +116,5 @@ marked : Taps × List ℕ → Bool
 marked r = same (r .1) (take (marks (r .0) .count) (marks (r .0) .places))
 
 marks-agree : T (allPass marked markRows)
-unfolding allPass marked markRows same marks plain noNumbers outside taps floats toBits ofBits usedOf lt kindNumber placesOf countOf stored tapMarks
+unfolding allPass marked markRows same marks plain noNumbers outside taps floats toBits ofBits lt kindNumber padded countOf stored tapMarks
 marks-agree = tt

@@ -1,5 +1,5 @@
 -- THE HEIGHT OF AN IMPULSE TRAIN IS WITHIN 1 / 262,144 OF ITS EXACT HEIGHT. A distance is rounded once, so that it is near in proportion to its size, and a tap reaches no
--- further than its width; the spike is then one analysis, and a maximum brings two numbers no further apart. Assumes nothing.
+-- further than its tapWidth; the spike is then one analysis, and a maximum brings two numbers no further apart. Assumes nothing.
 use mathlib.Core.Bool.{Bool, true, false, cond}
 use Prim.Native.Nat.{ℕ, zero, suc, _+_, _*_, _^_, _≤_, _<_}
 use native.Mathlib.Nat.{mul-le-mul-right, le-of-mul-le-mul-right, le-refl, le-of-lt}
@@ -29,7 +29,7 @@ use Rattle.curve.proofs.Positions.{Level, position-level}
 use Rattle.curve.proofs.Clamped.{drawn-near}
 use Rattle.curve.proofs.LevelInput.{unit, level-input}
 use Rattle.taps.specs.declared.Taps.{Taps}
-use Rattle.taps.specs.Formula.{width, usedOf, atOf, tallOf, spikeOf, tapHeightOf, tapsLevelOf, tapsHeightOf}
+use Rattle.taps.specs.Formula.{tapWidth, usedOf, atOf, tallOf, spikeOf, tapHeightOf, tapsLevelOf, tapsHeightOf}
 use Rattle.taps.specs.Exact.{spikeℚ, tapHeightℚ, tapsLevelℚ, tapsHeightℚ}
 use Rattle.taps.proofs.Ranges.{TapsRange}
 use Rattle.taps.proofs.Maximum.{max-is}
@@ -55,14 +55,14 @@ abs-is nan h = absurd h
 abs-is (inf s) h = absurd h
 abs-is (fin s m e) h = abs-value s m e
 
--- what is smaller in size than the width is a number
-reached-finite : (x : Float) → T (lt (absOf x) width) → T (finite x)
+-- what is smaller in size than the tapWidth is a number
+reached-finite : (x : Float) → T (lt (absOf x) tapWidth) → T (finite x)
 unfolding absOf lt ofBits
 reached-finite nan h = absurd h
 reached-finite (inf s) h = absurd h
 reached-finite (fin s m e) h = tt
 
--- ---- THE DISTANCE: where its float is below the width it is at most 1 / 32, with an error of at most 2 ^ -29
+-- ---- THE DISTANCE: where its float is below the tapWidth it is at most 1 / 32, with an error of at most 2 ^ -29
 distance : Bound
 distance = record { lo = pos 0; hi = pos (2 ^ 144); err = 2 ^ 120 }
 
@@ -85,11 +85,11 @@ short n d e D E l h =
     out : n * 32 ≤ d → n * 32 + 0 * d ≤ 1 * d + 0 * 32
     out h = omega arith
 
-width-short : value width ≤ℚ ratio 1 64
+width-short : value tapWidth ≤ℚ ratio 1 64
 unfolding value ofBits
 width-short = leZ-yes tt
 
-distance-input : (p at : Float) → Level p → T (fits binary32 at) → T (finite at) → T (lt (absOf (p ⊖ at)) width) → Approximates binary32 (absOf (p ⊖ at)) (absℚ (value p -ℚ value at)) distance
+distance-input : (p at : Float) → Level p → T (fits binary32 at) → T (finite at) → T (lt (absOf (p ⊖ at)) tapWidth) → Approximates binary32 (absOf (p ⊖ at)) (absℚ (value p -ℚ value at)) distance
 unfolding distance ofBits
 distance-input p at h f t l =
     let s = p ⊖ at in
@@ -97,8 +97,8 @@ distance-input p at h f t l =
     let D = absℚ (value p -ℚ value at) in
     let g = sub-fits binary32 p at in
     let r : RelativelyWithin (value (absOf s)) D (ratio 1 (2 ^ 24)) = within-equal-left (equal-sym (abs-is s S)) (abs-within (sub-relative binary32 p at (h .holds) f S)) in
-    let w = lt-at-most (absOf s) width (abs-finite s S) tt l in
-    let k = short (natAbs ((value p -ℚ value at) .num)) (D .den) (value (absOf s)) (r .right) (w .left) (≤ℚ-trans (value (absOf s)) (value width) (ratio 1 64) (w .right) (w .le) width-short) (r .above) in
+    let w = lt-at-most (absOf s) tapWidth (abs-finite s S) tt l in
+    let k = short (natAbs ((value p -ℚ value at) .num)) (D .den) (value (absOf s)) (r .right) (w .left) (≤ℚ-trans (value (absOf s)) (value tapWidth) (ratio 1 64) (w .right) (w .le) width-short) (r .above) in
     record {
       defined = r .right;
       near = within-near binary32 (absOf s) D (2 ^ 120) (abs-fits s g) (within-loosen (relative-absolute (ratio 1 32) 1 (2 ^ 24) r (lit< tt) k) (lit< tt) (leZ-yes tt));
@@ -108,13 +108,13 @@ distance-input p at h f t l =
 
 -- ---- THE SPIKE: the inputs are the distance and the tap's height
 spike : Expr
-spike = times (var 1) (minus (constant one₃₂) (over (var 0) (constant width)))
+spike = times (var 1) (minus (constant one₃₂) (over (var 0) (constant tapWidth)))
 
 spike-ok : T (certified binary32 (two distance unit) spike 1 262144)
 unfolding certified analyse spike distance unit range two ofBits
 spike-ok = tt
 
-spike-near : (p at tall : Float) → Level p → T (fits binary32 at) → T (finite at) → Level tall → T (lt (absOf (p ⊖ at)) width)
+spike-near : (p at tall : Float) → Level p → T (fits binary32 at) → T (finite at) → Level tall → T (lt (absOf (p ⊖ at)) tapWidth)
     → Within (value (spikeOf tall (absOf (p ⊖ at)))) (spikeℚ (value tall) (absℚ (value p -ℚ value at))) (ratio 1 262144)
 unfolding spike two evalFloat evalExact plain value ofBits
 spike-near p at tall h f t k l =
@@ -127,7 +127,7 @@ spike-near p at tall h f t k l =
 tap-near : (at tall p x : Float) (X : Fraction) → Level p → T (fits binary32 at) → T (finite at) → Level tall → Within (value x) X (ratio 1 262144)
     → Within (value (tapHeightOf at tall p x)) (tapHeightℚ at tall p X) (ratio 1 262144)
 unfolding tapHeightOf tapHeightℚ
-tap-near at tall p x X h f t k w = go (lt (absOf (p ⊖ at)) width) (spike-near p at tall h f t k)
+tap-near at tall p x X h f t k w = go (lt (absOf (p ⊖ at)) tapWidth) (spike-near p at tall h f t k)
   where
     y : Float
     y = spikeOf tall (absOf (p ⊖ at))

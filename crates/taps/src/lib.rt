@@ -13,6 +13,7 @@ use generator::Marks;
 use generator::Scale;
 use generator::no_marks;
 use generator::push;
+use lists::at_most;
 use math::abs;
 use math::max;
 
@@ -27,16 +28,6 @@ pub struct Taps {
     pub at: [f32; MAX_TAPS],
     pub tall: [f32; MAX_TAPS],
     pub used: usize,
-}
-
-// How many taps are used: never more than there are.
-fn used(taps: Taps) -> usize
-    ensures { λ r. ⌜ r ≡ usedOf taps ⌝ }
-{
-    if taps.used < MAX_TAPS {
-        return taps.used;
-    }
-    MAX_TAPS
 }
 
 // The height so far, or the tap's where that is larger. Most positions are beyond the tap to one side: the distance is taken of the others alone.
@@ -57,7 +48,7 @@ fn tap_height(at: f32, tall: f32, t: f32, height: f32) -> f32
 fn taps_level(taps: Taps, t: f32) -> f32
     ensures { λ r. ⌜ r ≡ tapsLevelOf taps t (usedOf taps) ⌝ }
 {
-    let count = used(taps);
+    let count = at_most(taps.used, MAX_TAPS);
     let mut height: f32 = 0.0;
     let mut i: usize = 0;
     while i < count {
@@ -78,7 +69,7 @@ pub fn taps_height(taps: Taps, t: f32) -> Height
 pub fn taps_marks(taps: Taps) -> Marks
     ensures { λ r. ⌜ r ≡ stored (tapMarks taps (usedOf taps)) ⌝ }
 {
-    let count = used(taps);
+    let count = at_most(taps.used, MAX_TAPS);
     let mut marks = no_marks();
     let mut i: usize = 0;
     while i < count {

@@ -6,7 +6,7 @@ use lib.Dec.{T}
 use Rattle.lists.proofs.Every.{every, each}
 use Rattle.text.specs.Text.{ascii}
 use Rattle.text.specs.Spelled.{glyphOf, digitsOf, placesFrom, decimalOf, hexOf, fixedOf}
-use Rattle.text.specs.Escaped.{upperOf, codeOf, shownOf, escapedOf, escapedAll, safe}
+use Rattle.text.specs.Escaped.{upperOf, hexByteOf, shownOf, escapedOf, escapedAll, safe}
 
 -- A text is its codes.
 codes : ascii "<svg" ≡ 60 ∷ 115 ∷ 118 ∷ 103 ∷ []
@@ -43,10 +43,10 @@ many = refl
 
 -- a quote, an ampersand, a tab, a backslash, a byte of 255
 escapes : escapedAll (34 ∷ 38 ∷ 65 ∷ 9 ∷ 92 ∷ 255 ∷ []) ≡ ascii "&quot;&amp;A\\x09\\\\xFF"
-unfolding escapedAll escapedOf shownOf codeOf upperOf
+unfolding escapedAll escapedOf shownOf hexByteOf upperOf
 escapes = refl
 
 -- Every byte escaped is one entity, or plain characters: computed, byte by byte.
 pub escaped-safe : (b : ℕ) → b < 256 → T (safe (escapedOf b))
-unfolding every escapedOf shownOf codeOf upperOf
+unfolding every escapedOf shownOf hexByteOf upperOf
 escaped-safe b h = each (λ n. safe (escapedOf n)) 256 b tt h

@@ -8,7 +8,7 @@ use native.Mathlib.Omega.{arith}
 use borrow.Author.Tests.{lt-ltb, ltb-true, ltb-false}
 use lib.Dec.{ltb, ltb→lt}
 use lib.ListN.{length}
-use Rattle.text.specs.Spelled.{glyphOf, digitsOf, placesFrom, placesOf, decimalOf, numberOf}
+use Rattle.text.specs.Spelled.{glyphOf, digitsOf, placesFrom, digitCount, decimalOf, numberOf}
 use Rattle.text.proofs.Digits.{power-positive}
 
 -- ---- k digits
@@ -80,8 +80,8 @@ fewest (suc more) k n h = go (ltb n (10 ^ k)) (ltb-false n (10 ^ k)) h (eq-or-lt
 -- ---- a number below 10 ^ 20
 pub decimal-number : (n : ℕ) → n < 10 ^ 20 → numberOf (decimalOf n) ≡ n
 unfolding decimalOf
-decimal-number n h = digits-number (placesOf n) n ∙ mod-eq-of-lt (enough 19 1 n h)
+decimal-number n h = digits-number (digitCount n) n ∙ mod-eq-of-lt (enough 19 1 n h)
 
 pub decimal-fewest : (n : ℕ) → 1 < length (decimalOf n) → 10 ^ (length (decimalOf n) - 1) ≤ n
 unfolding decimalOf
-decimal-fewest n h = let e = digits-length 10 (placesOf n) n in rw e (fewest 19 1 n (rw e at h))
+decimal-fewest n h = let e = digits-length 10 (digitCount n) n in rw e (fewest 19 1 n (rw e at h))

@@ -7,7 +7,7 @@ use native.Mathlib.Omega.{arith}
 use lib.ListN.{length, drop, getD, drop-of-length-le}
 use lib.Seq.{drop-cons}
 use borrow.Author.Tests.{eq-eqb, ne-eqb}
-use Rattle.text.specs.Words.{bar, firstWord, pastBar, wordOf, placeOf}
+use Rattle.text.specs.Words.{bar, firstWord, pastBar, wordOf, indexOf}
 
 module _ (s : List ℕ) (i : ℕ) where
   pub past-bar : (last : List ℕ) → i < length s → getD s i 0 ≡ bar → pastBar last (drop i s) ≡ drop (i + 1) s
@@ -56,23 +56,23 @@ word-last words (suc k) e = rw (← e) (word-last words k e)
 
 -- ---- the place in a list
 module _ (list : List ℕ) (i b : ℕ) where
-  here : i < length list → getD list i 0 ≡ b → placeOf (drop i list) b ≡ 0
-  unfolding placeOf
+  here : i < length list → getD list i 0 ≡ b → indexOf (drop i list) b ≡ 0
+  unfolding indexOf
   here h e = rw (drop-cons list i 0 h) (simp (eq-eqb _ _ e))
 
-  further : i < length list → (getD list i 0 ≡ b → ⊥) → placeOf (drop i list) b ≡ suc (placeOf (drop (i + 1) list) b)
-  unfolding placeOf
+  further : i < length list → (getD list i 0 ≡ b → ⊥) → indexOf (drop i list) b ≡ suc (indexOf (drop (i + 1) list) b)
+  unfolding indexOf
   further h n = rw (add-one, drop-cons list i 0 h) (simp (ne-eqb _ _ n))
 
-  none : length list ≤ i → placeOf (drop i list) b ≡ 0
-  unfolding placeOf
+  none : length list ≤ i → indexOf (drop i list) b ≡ 0
+  unfolding indexOf
   none h = rw (drop-of-length-le list h)
 
-  module _ {place : ℕ} (e : place ≡ i + placeOf (drop i list) b) where
+  module _ {place : ℕ} (e : place ≡ i + indexOf (drop i list) b) where
     pub place-here : i < length list → getD list i 0 ≡ b → i ≡ place
     place-here h q = omega (arith, here h q)
 
-    pub place-further : i < length list → (getD list i 0 ≡ b → ⊥) → place ≡ i + 1 + placeOf (drop (i + 1) list) b
+    pub place-further : i < length list → (getD list i 0 ≡ b → ⊥) → place ≡ i + 1 + indexOf (drop (i + 1) list) b
     place-further h n = omega (arith, further h n)
 
     pub place-none : length list ≤ i → i ≡ place

@@ -10,12 +10,12 @@ unfoldable pub upperOf : ℕ → ℕ
 upperOf d = cond (ltb d 10) (48 + d) (55 + d)
 
 -- A byte that is no printable character: \x and its two digits.
-unfoldable pub codeOf : ℕ → List ℕ
-codeOf b = ascii "\\x" ++ (upperOf (b / 16) ∷ []) ++ (upperOf (b % 16) ∷ [])
+unfoldable pub hexByteOf : ℕ → List ℕ
+hexByteOf b = ascii "\\x" ++ (upperOf (b / 16) ∷ []) ++ (upperOf (b % 16) ∷ [])
 
 -- A byte as itself, where it is a printable character.
 unfoldable pub shownOf : ℕ → List ℕ
-shownOf b = cond (ltb b 32) (codeOf b) (cond (ltb 126 b) (codeOf b) (b ∷ []))
+shownOf b = cond (ltb b 32) (hexByteOf b) (cond (ltb 126 b) (hexByteOf b) (b ∷ []))
 
 -- A byte as XML text, in an element or in an attribute: & < > " ' by their entities.
 unfoldable pub escapedOf : ℕ → List ℕ

@@ -21,12 +21,12 @@ placesFrom zero k n = k
 placesFrom (suc more) k n = cond (ltb n (10 ^ k)) k (placesFrom more (suc k) n)
 
 -- How many digits a number below 10^20 has in base 10.
-abbrev pub placesOf : ℕ → ℕ
-placesOf n = placesFrom 19 1 n
+abbrev pub digitCount : ℕ → ℕ
+digitCount n = placesFrom 19 1 n
 
 -- A number below 10^20 in base 10, with no zero in front.
 unfoldable pub decimalOf : ℕ → List ℕ
-decimalOf n = digitsOf 10 (placesOf n) n
+decimalOf n = digitsOf 10 (digitCount n) n
 
 -- The number that decimal digits stand for: what decimalOf is held against (proofs/Reading.antt).
 unfoldable pub numberOf : List ℕ → ℕ

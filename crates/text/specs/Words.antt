@@ -24,6 +24,6 @@ wordOf words zero = firstWord words
 wordOf words (suc k) = wordOf (pastBar words words) k
 
 -- The place of the first b in a list; the list's length where it has none.
-unfoldable pub placeOf : List ℕ → ℕ → ℕ
-placeOf [] b = 0
-placeOf (a ∷ list) b = cond (eqb a b) 0 (suc (placeOf list b))
+unfoldable pub indexOf : List ℕ → ℕ → ℕ
+indexOf [] b = 0
+indexOf (a ∷ list) b = cond (eqb a b) 0 (suc (indexOf list b))

@@ -1,12 +1,13 @@
 // Text written into a lent buffer. Each writer stores its text from a position on, and answers the next position; what does not fit is left out.
 ghost use mathlib.Core.Path.{_≡_};
 ghost use mathlib.Core.List.{[], _∷_};
-ghost use Prim.Native.Nat.{_+_, _-_, _^_, _<_, _≤_, min};
+ghost use Prim.Native.Nat.{_+_, _-_, _^_, _<_, _≤_};
 ghost use Rattle.text.specs.Text.{Puts};
-ghost use Rattle.text.specs.Spelled.{glyphOf, digitsOf, placesOf, decimalOf, hexOf, fixedOf};
-ghost use Rattle.text.specs.Escaped.{upperOf, codeOf, shownOf, escapedOf, escapedAll};
-ghost use Rattle.text.specs.Words.{firstWord, pastBar, wordOf, placeOf};
+ghost use Rattle.text.specs.Spelled.{glyphOf, digitsOf, digitCount, decimalOf, hexOf, fixedOf};
+ghost use Rattle.text.specs.Escaped.{upperOf, hexByteOf, shownOf, escapedOf, escapedAll};
+ghost use Rattle.text.specs.Words.{firstWord, pastBar, wordOf, indexOf};
 ghost use lib.ListN.{drop};
+use lists::at_most;
 
 pub fn put_byte(out: &mut [u8], at: usize, b: u8) -> usize
     ensures { λ r. ⌜ Puts (now (out .entry)) at (b ∷ []) (now (out .exit)) r ⌝ }
@@ -72,7 +73,7 @@ fn put_digits(out: &mut [u8], at: usize, n: u64, base: u64, count: usize) -> usi
 
 // How many digits a number has.
 fn places(n: u64) -> usize
-    ensures { λ r. ⌜ (r ≡ placesOf n) × (1 ≤ r) × (r ≤ 20) ⌝ }
+    ensures { λ r. ⌜ (r ≡ digitCount n) × (1 ≤ r) × (r ≤ 20) ⌝ }
 {
     let mut k: usize = 1;
     while k < 20 {
@@ -98,21 +99,11 @@ pub fn put_hex(out: &mut [u8], at: usize, n: u32) -> usize
     put_digits(out, at, n as u64, 16, 8)
 }
 
-// A number of places that a number of 64 bits has.
-fn places_shown(places: usize) -> usize
-    ensures { λ r. ⌜ (r ≡ min places 19) × (r ≤ 19) ⌝ }
-{
-    if places < 19 {
-        return places;
-    }
-    19
-}
-
 // A number with a point before its last digits.
 pub fn put_fixed(out: &mut [u8], at: usize, n: u64, places: usize) -> usize
     ensures { λ r. ⌜ Puts (now (out .entry)) at (fixedOf n places) (now (out .exit)) r ⌝ }
 {
-    let k = places_shown(places);
+    let k = at_most(places, 19);
     let whole = n / power(10, k);
     let point = put_decimal(out, at, whole);
     let rest = put(out, point, b".");
@@ -132,7 +123,7 @@ fn upper(d: u8) -> u8
 
 // A byte by its two digits.
 fn put_code(out: &mut [u8], at: usize, b: u8) -> usize
-    ensures { λ r. ⌜ Puts (now (out .entry)) at (codeOf b) (now (out .exit)) r ⌝ }
+    ensures { λ r. ⌜ Puts (now (out .entry)) at (hexByteOf b) (now (out .exit)) r ⌝ }
 {
     let first = put(out, at, b"\\x");
     let second = put_byte(out, first, upper(b / 16));
@@ -238,7 +229,7 @@ pub fn put_word(out: &mut [u8], at: usize, words: &[u8], k: usize) -> usize
 
 // The place of a byte in a list.
 pub fn place(list: &[u8], b: u8) -> usize
-    ensures { λ r. ⌜ r ≡ placeOf (now (list .entry)) b ⌝ }
+    ensures { λ r. ⌜ r ≡ indexOf (now (list .entry)) b ⌝ }
 {
     let mut i: usize = 0;
     while i < list.len() {

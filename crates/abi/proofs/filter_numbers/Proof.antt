@@ -1,11 +1,12 @@
 -- `filter_numbers` meets its contract. Assumes nothing.
-use Rattle.abi.specs.Numbers.{settingsNumbers, stored, settingsList, placesOf}
+use Rattle.abi.specs.Numbers.{settingsNumbers, storedSettings, settingsList}
+use Rattle.lists.specs.Padded.{padded}
 use borrow.Author.Needs.{needs}
 use Rattle.abi.proofs.filter_numbers.Statement.{statement}
 use Rattle.abi.proofs.filter_numbers.Tie as tie
 
 returns : tie.Need-returns
-unfolding settingsNumbers stored settingsList placesOf
+unfolding settingsNumbers storedSettings settingsList padded
 returns c = simp (c .pass-number .ensures)
 
 pub filter-numbers-spec : {M : Type 1} → statement M

@@ -1,11 +1,12 @@
 -- `lfo_numbers` meets its contract. Assumes nothing.
-use Rattle.abi.specs.Numbers.{settingsNumbers, stored, settingsList, placesOf}
+use Rattle.abi.specs.Numbers.{settingsNumbers, storedSettings, settingsList}
+use Rattle.lists.specs.Padded.{padded}
 use borrow.Author.Needs.{needs}
 use Rattle.abi.proofs.lfo_numbers.Statement.{statement}
 use Rattle.abi.proofs.lfo_numbers.Tie as tie
 
 returns : tie.Need-returns
-unfolding settingsNumbers stored settingsList placesOf
+unfolding settingsNumbers storedSettings settingsList padded
 returns c = simp (c .flag2 .ensures, c .before .flag .ensures, c .before .before .shape-number .ensures)
 
 pub lfo-numbers-spec : {M : Type 1} → statement M

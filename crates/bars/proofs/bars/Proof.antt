@@ -18,20 +18,20 @@ abbrev μ-loop : tie.MeasureT-loop
 μ-loop gates count finished₀ bar₀ i₀ finished bar i = count - i
 
 returns : tie.Need-returns Inv-loop μ-loop
-returns c = join-none (c .before .before .before .args .t1) _ (c .before .before .used .ensures .0) _ (c .no-bars .ensures) (c .before .before .used .ensures .1) (c .before .if1 .taken)
+returns c = join-none (c .before .before .before .args .t1) _ (c .before .before .at-most .ensures .2) _ (c .no-bars .ensures) (c .before .before .at-most .ensures .0) (c .before .if1 .taken)
 
 loop-holds : tie.Need-loop-holds Inv-loop μ-loop
 loop-holds c =
-    let u = c .before .before .before .used .ensures in
-    let some : 0 < c .before .before .before .used .result = omega arith in
-    (search needs, search needs, search needs, join-first (c .before .before .before .before .args .t1) _ (u .0) _ (c .before .no-bars2 .ensures) (u .1) some)
+    let u = c .before .before .before .at-most .ensures in
+    let some : 0 < c .before .before .before .at-most .result = omega arith in
+    (search needs, search needs, search needs, join-first (c .before .before .before .before .args .t1) _ (u .2) _ (c .before .no-bars2 .ensures) (u .0) some)
 
 loop-again : tie.Need-loop-again Inv-loop μ-loop
 loop-again c =
     let b = c .before .before .before .before in
     let inv = b .loop .inv in
     let gates = b .before .before .before .before .before .args .t1 in
-    let i : b .loop .i < b .before .before .before .before .used .result = c .before .before .before .loop-test .taken in (
+    let i : b .loop .i < b .before .before .before .before .at-most .result = c .before .before .before .loop-test .taken in (
       search needs,
       search needs,
       search needs,

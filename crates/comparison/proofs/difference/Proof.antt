@@ -1,12 +1,12 @@
 -- `difference` is `differenceAt`. Assumes nothing.
-use Rattle.strip.specs.Strip.{sampleOf}
+use Rattle.strip.specs.Strip.{samplePosition}
 use Rattle.comparison.specs.Largest.{differenceAt}
 use borrow.Author.Needs.{needs}
 use Rattle.comparison.proofs.difference.Statement.{statement}
 use Rattle.comparison.proofs.difference.Tie as tie
 
 returns : tie.Need-returns
-unfolding differenceAt sampleOf
+unfolding differenceAt samplePosition
 returns c = simp (c .abs .ensures, c .before .before .before .at2 .ensures, c .before .before .before .before .at .ensures, c .before .before .before .before .before .sample-position .ensures)
 
 pub difference-spec : {M : Type 1} → statement M

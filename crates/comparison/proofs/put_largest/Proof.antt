@@ -1,14 +1,14 @@
 -- `put_largest` puts `largestText`: its parts, one after the other. Assumes nothing.
 use mathlib.Core.Path.{refl}
 use Rattle.text.proofs.Writing.{_⨾_}
-use Rattle.strip.specs.Strip.{sampleOf}
+use Rattle.strip.specs.Strip.{samplePosition}
 use Rattle.comparison.specs.Differences.{largestText}
 use borrow.Author.Needs.{needs}
 use Rattle.comparison.proofs.put_largest.Statement.{statement}
 use Rattle.comparison.proofs.put_largest.Tie as tie
 
 returns : tie.Need-returns
-unfolding largestText sampleOf
+unfolding largestText samplePosition
 returns c = simp (← c .before .before .before .before .before .before .before .before .sample-position .ensures)
     (c .before .before .before .before .before .before .before .before .before .before .before .before .before .before .before .before .before .before .before .before .before .put .ensures ⨾
     c .before .before .before .before .before .before .before .before .before .before .before .before .before .before .before .before .before .put-nine-places .ensures ⨾

@@ -12,7 +12,7 @@ returns c = simp (is-nan true _ (c .if1 .taken))
 
 returns-2 : tie.Need-returns-2
 unfolding positionOf
-returns-2 c = simp (is-nan false _ (c .before .if1 .left), c .unit .ensures)
+returns-2 c = simp (is-nan false _ (c .before .if1 .left), c .clamp-unit .ensures)
 
 pub position-spec : {M : Type 1} → statement M
 position-spec = tie.close (tie.spec returns (λ c κs. search needs) returns-2)

@@ -6,11 +6,11 @@ use Rattle.envelope.proofs.bent.Tie as tie
 
 returns : tie.Need-returns
 unfolding bentOf bentUnit denominatorOf
-returns c = simp (c .before .unit .ensures, simp (c .before .unit .ensures) at (c .if1 .taken))
+returns c = simp (c .before .clamp-unit .ensures, simp (c .before .clamp-unit .ensures) at (c .if1 .taken))
 
 returns-2 : tie.Need-returns-2
 unfolding bentOf bentUnit denominatorOf
-returns-2 c = simp (c .before .unit .ensures, simp (c .before .unit .ensures) at (c .if1 .left))
+returns-2 c = simp (c .before .clamp-unit .ensures, simp (c .before .clamp-unit .ensures) at (c .if1 .left))
 
 pub bent-spec : {M : Type 1} → statement M
 bent-spec = tie.close (tie.spec (λ c κs. search needs) returns returns-2)

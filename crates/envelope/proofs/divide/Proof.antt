@@ -10,7 +10,7 @@ returns c = simp (c .if1 .taken)
 
 returns-2 : tie.Need-returns-2
 unfolding divideOf
-returns-2 c = simp (c .before .if1 .left, c .unit .ensures)
+returns-2 c = simp (c .before .if1 .left, c .clamp-unit .ensures)
 
 pub divide-spec : {M : Type 1} → statement M
 divide-spec = tie.close (tie.spec returns (λ c κs. search needs) returns-2)

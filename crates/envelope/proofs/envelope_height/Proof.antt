@@ -1,11 +1,11 @@
--- `envelope_height` is `heightOf`. Assumes nothing.
-use Rattle.envelope.specs.Formula.{heightOf}
+-- `envelope_height` is `envelopeHeightOf`. Assumes nothing.
+use Rattle.envelope.specs.Formula.{envelopeHeightOf}
 use borrow.Author.Needs.{needs}
 use Rattle.envelope.proofs.envelope_height.Statement.{statement}
 use Rattle.envelope.proofs.envelope_height.Tie as tie
 
 returns : tie.Need-returns
-unfolding heightOf
+unfolding envelopeHeightOf
 returns c = simp (c .drawn .ensures, c .before .level .ensures, c .before .before .position .ensures)
 
 pub envelope-height-spec : {M : Type 1} → statement M

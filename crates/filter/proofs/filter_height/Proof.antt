@@ -1,11 +1,11 @@
--- `filter_height` is `heightOf`. Assumes nothing.
+-- `filter_height` is `filterHeightOf`. Assumes nothing.
 use borrow.Author.Needs.{needs}
-use Rattle.filter.specs.Formula.{heightOf}
+use Rattle.filter.specs.Formula.{filterHeightOf}
 use Rattle.filter.proofs.filter_height.Statement.{statement}
 use Rattle.filter.proofs.filter_height.Tie as tie
 
 returns : tie.Need-returns
-unfolding heightOf
+unfolding filterHeightOf
 returns c = simp (c .before .before .position .ensures, c .before .level .ensures, c .drawn .ensures)
 
 pub filter-height-spec : {M : Type 1} → statement M

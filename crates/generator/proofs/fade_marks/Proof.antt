@@ -1,11 +1,12 @@
 -- `fade_marks` stores `fadeMarks`. Assumes nothing.
 use borrow.Author.Needs.{needs}
-use Rattle.generator.specs.Marks.{fadeMarks, pushed, noMarks, stored, placesOf, countOf}
+use Rattle.generator.specs.Marks.{fadeMarks, pushed, noMarks, stored, countOf}
+use Rattle.lists.specs.Padded.{padded}
 use Rattle.generator.proofs.fade_marks.Statement.{statement}
 use Rattle.generator.proofs.fade_marks.Tie as tie
 
 returns : tie.Need-returns
-unfolding fadeMarks pushed noMarks stored placesOf countOf
+unfolding fadeMarks pushed noMarks stored padded countOf
 returns c = simp (c .push2 .ensures, c .before .push .ensures, c .before .before .no-marks .ensures)
 
 pub fade-marks-spec : {M : Type 1} → statement M

@@ -1,11 +1,12 @@
 -- `no_marks` is `noMarks`. Assumes nothing.
 use mathlib.Core.Path.{refl}
-use Rattle.generator.specs.Marks.{noMarks, stored, placesOf, countOf}
+use Rattle.generator.specs.Marks.{noMarks, stored, countOf}
+use Rattle.lists.specs.Padded.{padded}
 use Rattle.generator.proofs.no_marks.Statement.{statement}
 use Rattle.generator.proofs.no_marks.Tie as tie
 
 returns : tie.Need-returns
-unfolding noMarks stored placesOf countOf
+unfolding noMarks stored padded countOf
 returns c = refl
 
 pub no-marks-spec : {M : Type 1} → statement M

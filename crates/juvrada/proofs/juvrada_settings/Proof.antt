@@ -10,7 +10,7 @@ unfolding settingsResult settingsAfter
 returns c =
     let answer = sym (c .before .before .before .before .before .before .before .settings .ensures) ∙ c .before .before .before .before .before .answer .given .1 in
     let numbers = c .before .before .before .settings-numbers .ensures in
-    (simp (answer, c .settings-used .ensures .0, numbers), simp (answer, c .before .lay-settings .ensures, numbers))
+    (simp (answer, c .settings-used .ensures .0, numbers), simp (answer, c .before .copy-settings .ensures, numbers))
 
 returns-2 : tie.Need-returns-2
 unfolding settingsResult settingsAfter

@@ -17,7 +17,7 @@ unfolding tapsAnswer
 accepted e h = simp (e, h)
 
 returns : tie.Need-returns
-returns c = same-marks (accepted (c .before .before .before .taps-marks .ensures) (c .before .before .before .before .taps-of .ensures)) (c .lay-marks .ensures)
+returns c = same-marks (accepted (c .before .before .before .taps-marks .ensures) (c .before .before .before .before .taps-of .ensures)) (c .copy-marks .ensures)
 
 pub juvrada-taps-marks-spec : {M : Type 1} → statement M
 juvrada-taps-marks-spec =

@@ -43,7 +43,7 @@ returns c =
       | inr there ↦
           search-here _ 65535 _ (i .0) (ap (le _) (sym (there .1 .ensures)) ∙ there .2 .taken)
     ] in
-    finished _ _ _ _ _ _ _ _ _ (i .0) (i .2) (i .3) (sym (i .4) ∙ full) (c .before .before .before .place2 .ensures) (c .before .before .min .ensures) (c .before .moved2 .ensures) (c .unit .ensures)
+    finished _ _ _ _ _ _ _ _ _ (i .0) (i .2) (i .3) (sym (i .4) ∙ full) (c .before .before .before .place2 .ensures) (c .before .before .min .ensures) (c .before .moved2 .ensures) (c .clamp-unit .ensures)
 
 pub walked-spec : {M : Type 1} → statement M
 walked-spec =

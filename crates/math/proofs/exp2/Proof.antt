@@ -6,7 +6,7 @@ use lib.Ieee.{Float, nan, isNan, ofBits, neg, add, sub, mul}
 use lib.Ieee.Compare.{differs-from-itself}
 use Rattle.exact.specs.Binary32.{_⊗_}
 use Rattle.math.specs.Horner.{horner}
-use Rattle.math.specs.Formulas.{clampOf, floorOf, fractOf, exp2Coefficients, scaleOf, exp2Within, exp2Of}
+use Rattle.math.specs.Formulas.{clampOf, floorOf, fractOf, exp2Coefficients, exp2Scale, exp2Within, exp2Of}
 use Rattle.math.proofs.Nan.{is-nan}
 use Rattle.math.proofs.Scale.{Scales, least, most, clamped}
 use borrow.Author.Needs.{needs}
@@ -15,7 +15,7 @@ use Rattle.math.proofs.exp2.Tie as tie
 
 -- a NaN gives a NaN
 at-nan : exp2Within nan ≡ nan
-unfolding exp2Within horner exp2Coefficients fractOf floorOf scaleOf sub add mul neg ofBits
+unfolding exp2Within horner exp2Coefficients fractOf floorOf exp2Scale sub add mul neg ofBits
 at-nan = refl
 
 nan-case : (x c : Float) → c ≡ clampOf least most x → c ≡ nan → c ≡ exp2Of x
@@ -28,12 +28,12 @@ unfolding neg ofBits
 into c = c .clamp .ensures
 
 -- its floor stands for its scale
-whole : (c : tie.After-floor) → Scales (c .floor .result) (scaleOf (c .before .before .clamp .result))
+whole : (c : tie.After-floor) → Scales (c .floor .result) (exp2Scale (c .before .before .clamp .result))
 whole c =
     let e = into (c .before .before) in
     let n = is-nan false _ (c .before .if1 .left) in
-    subst (λ (w : Float). Scales w (scaleOf (c .before .before .clamp .result))) (sym (c .floor .ensures))
-    (subst (λ (x : Float). Scales (floorOf x) (scaleOf x)) (sym e) (clamped _ (subst (λ (x : Float). isNan x ≡ false) e n)))
+    subst (λ (w : Float). Scales w (exp2Scale (c .before .before .clamp .result))) (sym (c .floor .ensures))
+    (subst (λ (x : Float). Scales (floorOf x) (exp2Scale x)) (sym e) (clamped _ (subst (λ (x : Float). isNan x ≡ false) e n)))
 
 returns : tie.Need-returns
 returns c = nan-case _ _ (into (c .before)) (differs-from-itself _ (subst T (sym (c .if1 .taken)) tt))

@@ -1,12 +1,12 @@
 -- `put_sample` puts `sampleText`. Assumes nothing.
-use Rattle.strip.specs.Strip.{sampleOf}
+use Rattle.strip.specs.Strip.{samplePosition}
 use Rattle.rows.specs.Rows.{sampleText}
 use borrow.Author.Needs.{needs}
 use Rattle.rows.proofs.put_sample.Statement.{statement}
 use Rattle.rows.proofs.put_sample.Tie as tie
 
 returns : tie.Need-returns
-unfolding sampleText sampleOf
+unfolding sampleText samplePosition
 returns c = simp (← c .before .before .before .before .sample-position .ensures) (c .before .before .put-row .ensures)
 
 pub put-sample-spec : {M : Type 1} → statement M

@@ -1,17 +1,16 @@
--- `fill_envelope` answers `stepsOf` and leaves `stripOf`. The loop's invariant: the first i samples are written. Assumes nothing.
+-- `fill_envelope` fills the strip, and answers that no height takes steps. The loop's invariant: the first i samples are written. Assumes nothing.
 use mathlib.Core.Path.{_≡_, refl}
 use Prim.Native.Nat.{_-_, _≤_}
 use native.Mathlib.Nat.{le-antisymm}
 use borrow.Author.Needs.{needs}
 use lib.ListN.{length, length-set}
 use Rattle.curve.specs.Curve.{drawnOf}
-use Rattle.envelope.specs.Formula as envelope
+use Rattle.envelope.specs.Formula.{envelopeHeightOf}
 use Rattle.generator.specs.declared.Shape.the-variants.{Envelope as AnEnvelope}
 use Rattle.generator.specs.Heights.{heightOf}
-use Rattle.strip.specs.Strip.{filledOf}
 use Rattle.lists.specs.Written.{written}
-use Rattle.strip.proofs.Lengths.{between}
-use Rattle.strip.proofs.Filling.{at-position, filled-next, stepless, refused, accepted}
+use Rattle.strip.specs.Strip.{filledOf}
+use Rattle.strip.proofs.Filling.{at-position, filled-next, stepless, filled-whole}
 use Rattle.strip.proofs.fill_envelope.Statement.{statement}
 use Rattle.strip.proofs.fill_envelope.Tie as tie
 
@@ -21,12 +20,6 @@ Inv-loop e out₀ n last i₀ out i = (length out ≡ length out₀) × (i ≤ n
 abbrev μ-loop : tie.MeasureT-loop
 μ-loop e out₀ n last i₀ out i = n - i
 
-returns : tie.Need-returns Inv-loop μ-loop
-returns c = refused (AnEnvelope (c .before .before .before .args .e)) _ (c .before .fits2 .ensures) (c .if1 .taken)
-
-last-of-requires : tie.Need-last-of-requires Inv-loop μ-loop
-last-of-requires c κs = between _ (c .before .fits2 .ensures) (c .if1 .left)
-
 loop-holds : tie.Need-loop-holds Inv-loop μ-loop
 unfolding written
 loop-holds c = (search needs, search needs, refl)
@@ -35,20 +28,16 @@ loop-again : tie.Need-loop-again Inv-loop μ-loop
 unfolding heightOf
 loop-again c =
     let l = c .before .before .before in
-    let s = AnEnvelope (l .before .before .before .before .before .args .e) in
+    let s = AnEnvelope (l .before .before .before .args .e) in
     let w = at-position s _ _ _ (l .before .last-of .ensures) (c .before .sample-position .ensures) (c .envelope-height .ensures) in
     (simp length-set (l .loop .inv .0), search needs, filled-next s _ _ w _ (l .loop .inv .2))
 
-same-length : tie.Need-same-length Inv-loop μ-loop
-same-length c = c .before .loop .inv .0
-
-returns-2 : tie.Need-returns-2 Inv-loop μ-loop
-unfolding heightOf envelope.heightOf drawnOf
-returns-2 c =
-    let f = c .before .before .before in
-    let s = AnEnvelope (f .before .before .before .args .e) in
+returns : tie.Need-returns Inv-loop μ-loop
+unfolding heightOf envelopeHeightOf drawnOf
+returns c =
+    let s = AnEnvelope (c .before .before .before .before .args .e) in
     let inv = c .before .loop .inv in
-    accepted s _ (f .before .fits2 .ensures) _ (f .if1 .left) (le-antisymm (inv .1) (c .loop-test .left)) (stepless s (λ t. refl) _ _) (inv .2)
+    filled-whole s _ _ _ (le-antisymm (inv .1) (c .loop-test .left)) (stepless s (λ t. refl) _ _) (inv .2)
 
 pub fill-envelope-spec : {M : Type 1} → statement M
 fill-envelope-spec =
@@ -57,8 +46,6 @@ fill-envelope-spec =
     Inv-loop
     μ-loop
     (λ c κs. search needs)
-    returns
-    last-of-requires
     loop-holds
     (λ c. search needs)
     (λ c κs. search needs)
@@ -68,5 +55,5 @@ fill-envelope-spec =
     (λ c. search needs)
     (λ c. search needs)
     loop-again
-    same-length
-    returns-2)
+    (λ c. c .before .loop .inv .0)
+    returns)

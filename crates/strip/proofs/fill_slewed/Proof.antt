@@ -1,4 +1,4 @@
--- `fill_slewed` answers `stepsOf` and leaves `stripOf`. The loop's invariant: the first i samples are written, and their steps summed. Assumes nothing.
+-- `fill_slewed` fills the strip, and answers the sum of the steps. The loop's invariant: the first i samples are written, and their steps summed. Assumes nothing.
 use mathlib.Core.Path.{_≡_, refl, _∙_}
 use Prim.Native.Nat.{_-_, _≤_}
 use native.Mathlib.Nat.{le-antisymm}
@@ -6,11 +6,10 @@ use native.Mathlib.Omega.{arith}
 use borrow.Author.Needs.{needs}
 use lib.ListN.{length, length-set}
 use Rattle.generator.specs.declared.Shape.the-variants.{Lfo as AnLfo}
-use Rattle.strip.specs.Strip.{filledOf, stepSum}
 use Rattle.lists.specs.Written.{written}
-use Rattle.strip.proofs.Lengths.{between}
+use Rattle.strip.specs.Strip.{filledOf, stepSum}
 use Rattle.strip.proofs.Slew.{with-slew}
-use Rattle.strip.proofs.Filling.{at-position, steps-small, total-small, sum-next, filled-next, refused, accepted}
+use Rattle.strip.proofs.Filling.{at-position, steps-small, total-small, sum-next, filled-next, filled-whole}
 use Rattle.strip.proofs.fill_slewed.Statement.{statement}
 use Rattle.strip.proofs.fill_slewed.Tie as tie
 
@@ -21,12 +20,6 @@ Inv-loop l out₀ count last total₀ i₀ out total i =
 abbrev μ-loop : tie.MeasureT-loop
 μ-loop l out₀ count last total₀ i₀ out total i = count - i
 
-returns : tie.Need-returns Inv-loop μ-loop
-returns c = refused (AnLfo (c .before .before .before .args .l)) _ (c .before .fits2 .ensures) (c .if1 .taken)
-
-last-of-requires : tie.Need-last-of-requires Inv-loop μ-loop
-last-of-requires c κs = between _ (c .before .fits2 .ensures) (c .if1 .left)
-
 loop-holds : tie.Need-loop-holds Inv-loop μ-loop
 unfolding stepSum written
 loop-holds c = (search needs, search needs, refl, refl)
@@ -34,29 +27,26 @@ loop-holds c = (search needs, search needs, refl, refl)
 add-total : tie.Need-add-total Inv-loop μ-loop
 add-total c =
     let l = c .before .before .before .before in
-    let s = AnLfo (l .before .before .before .before .before .args .l) in
-    let inv = l .loop .inv in
-    let w = at-position s _ _ _ (l .before .last-of .ensures) (c .before .before .sample-position .ensures) (c .before .slewed-height .ensures ∙ with-slew _ _ (l .before .before .before .before .before .pre)) in
+    let start = l .before .before .before in
+    let s = AnLfo (start .args .l) in
+    let w = at-position s _ _ _ (l .before .last-of .ensures) (c .before .before .sample-position .ensures) (c .before .slewed-height .ensures ∙ with-slew _ _ (start .pre .0)) in
     let h = steps-small s _ _ w in
-    let k = total-small s _ _ (inv .2) in
+    let k = total-small s _ _ (l .loop .inv .2) in
     omega arith
 
 loop-again : tie.Need-loop-again Inv-loop μ-loop
 loop-again c =
     let l = c .before .before .before .before in
-    let s = AnLfo (l .before .before .before .before .before .args .l) in
+    let start = l .before .before .before in
+    let s = AnLfo (start .args .l) in
     let inv = l .loop .inv in
-    let w = at-position s _ _ _ (l .before .last-of .ensures) (c .before .before .sample-position .ensures) (c .before .slewed-height .ensures ∙ with-slew _ _ (l .before .before .before .before .before .pre)) in
+    let w = at-position s _ _ _ (l .before .last-of .ensures) (c .before .before .sample-position .ensures) (c .before .slewed-height .ensures ∙ with-slew _ _ (start .pre .0)) in
     (simp length-set (inv .0), search needs, sum-next s _ _ w (inv .2), filled-next s _ _ w _ (inv .3))
 
-same-length : tie.Need-same-length Inv-loop μ-loop
-same-length c = c .before .loop .inv .0
-
-returns-2 : tie.Need-returns-2 Inv-loop μ-loop
-returns-2 c =
-    let f = c .before .before .before in
+returns : tie.Need-returns Inv-loop μ-loop
+returns c =
     let inv = c .before .loop .inv in
-    accepted (AnLfo (f .before .before .before .args .l)) _ (f .before .fits2 .ensures) _ (f .if1 .left) (le-antisymm (inv .1) (c .loop-test .left)) (inv .2) (inv .3)
+    filled-whole (AnLfo (c .before .before .before .before .args .l)) _ _ _ (le-antisymm (inv .1) (c .loop-test .left)) (inv .2) (inv .3)
 
 pub fill-slewed-spec : {M : Type 1} → statement M
 fill-slewed-spec =
@@ -65,8 +55,6 @@ fill-slewed-spec =
     Inv-loop
     μ-loop
     (λ c κs. search needs)
-    returns
-    last-of-requires
     loop-holds
     (λ c. search needs)
     (λ c κs. search needs)
@@ -77,5 +65,5 @@ fill-slewed-spec =
     (λ c. search needs)
     (λ c. search needs)
     loop-again
-    same-length
-    returns-2)
+    (λ c. c .before .loop .inv .0)
+    returns)

@@ -1,15 +1,14 @@
--- `fill_unslewed` answers `stepsOf` and leaves `stripOf`. The loop's invariant: the first i samples are written. Assumes nothing.
+-- `fill_unslewed` fills the strip, and answers that no height takes steps. The loop's invariant: the first i samples are written. Assumes nothing.
 use mathlib.Core.Path.{_≡_, refl, _∙_}
 use Prim.Native.Nat.{_-_, _≤_}
 use native.Mathlib.Nat.{le-antisymm}
 use borrow.Author.Needs.{needs}
 use lib.ListN.{length, length-set}
 use Rattle.generator.specs.declared.Shape.the-variants.{Lfo as AnLfo}
-use Rattle.strip.specs.Strip.{filledOf}
 use Rattle.lists.specs.Written.{written}
-use Rattle.strip.proofs.Lengths.{between}
+use Rattle.strip.specs.Strip.{filledOf}
 use Rattle.strip.proofs.Slew.{without-slew, without-steps}
-use Rattle.strip.proofs.Filling.{at-position, filled-next, stepless, refused, accepted}
+use Rattle.strip.proofs.Filling.{at-position, filled-next, stepless, filled-whole}
 use Rattle.strip.proofs.fill_unslewed.Statement.{statement}
 use Rattle.strip.proofs.fill_unslewed.Tie as tie
 
@@ -19,12 +18,6 @@ Inv-loop l out₀ n last i₀ out i = (length out ≡ length out₀) × (i ≤ n
 abbrev μ-loop : tie.MeasureT-loop
 μ-loop l out₀ n last i₀ out i = n - i
 
-returns : tie.Need-returns Inv-loop μ-loop
-returns c = refused (AnLfo (c .before .before .before .args .l)) _ (c .before .fits2 .ensures) (c .if1 .taken)
-
-last-of-requires : tie.Need-last-of-requires Inv-loop μ-loop
-last-of-requires c κs = between _ (c .before .fits2 .ensures) (c .if1 .left)
-
 loop-holds : tie.Need-loop-holds Inv-loop μ-loop
 unfolding written
 loop-holds c = (search needs, search needs, refl)
@@ -32,19 +25,17 @@ loop-holds c = (search needs, search needs, refl)
 loop-again : tie.Need-loop-again Inv-loop μ-loop
 loop-again c =
     let l = c .before .before .before in
-    let s = AnLfo (l .before .before .before .before .before .args .l) in
-    let w = at-position s _ _ _ (l .before .last-of .ensures) (c .before .sample-position .ensures) (c .unslewed-height .ensures ∙ without-slew _ _ (l .before .before .before .before .before .pre)) in
+    let start = l .before .before .before in
+    let s = AnLfo (start .args .l) in
+    let w = at-position s _ _ _ (l .before .last-of .ensures) (c .before .sample-position .ensures) (c .unslewed-height .ensures ∙ without-slew _ _ (start .pre .0)) in
     (simp length-set (l .loop .inv .0), search needs, filled-next s _ _ w _ (l .loop .inv .2))
 
-same-length : tie.Need-same-length Inv-loop μ-loop
-same-length c = c .before .loop .inv .0
-
-returns-2 : tie.Need-returns-2 Inv-loop μ-loop
-returns-2 c =
-    let f = c .before .before .before in
-    let s = AnLfo (f .before .before .before .args .l) in
+returns : tie.Need-returns Inv-loop μ-loop
+returns c =
+    let start = c .before .before .before .before in
+    let s = AnLfo (start .args .l) in
     let inv = c .before .loop .inv in
-    accepted s _ (f .before .fits2 .ensures) _ (f .if1 .left) (le-antisymm (inv .1) (c .loop-test .left)) (stepless s (λ t. without-steps _ t (f .before .before .before .pre)) _ _) (inv .2)
+    filled-whole s _ _ _ (le-antisymm (inv .1) (c .loop-test .left)) (stepless s (λ t. without-steps _ t (start .pre .0)) _ _) (inv .2)
 
 pub fill-unslewed-spec : {M : Type 1} → statement M
 fill-unslewed-spec =
@@ -53,8 +44,6 @@ fill-unslewed-spec =
     Inv-loop
     μ-loop
     (λ c κs. search needs)
-    returns
-    last-of-requires
     loop-holds
     (λ c. search needs)
     (λ c κs. search needs)
@@ -64,5 +53,5 @@ fill-unslewed-spec =
     (λ c. search needs)
     (λ c. search needs)
     loop-again
-    same-length
-    returns-2)
+    (λ c. c .before .loop .inv .0)
+    returns)

@@ -3,9 +3,8 @@ use Prim.Native.Nat.{_-_, _≤_}
 use mathlib.Core.Path.{_≡_, refl, ap, _∙_}
 use borrow.Author.Needs.{needs}
 use native.Mathlib.Numerals.{add-one}
-use native.Mathlib.Omega.{arith}
 use Rattle.taps.specs.Formula.{usedOf, tapsLevelOf}
-use Rattle.taps.proofs.UsedTaps.{used-at-most, all-used}
+use Rattle.taps.proofs.UsedTaps.{all-used}
 use Rattle.taps.proofs.taps_level.Statement.{statement}
 use Rattle.taps.proofs.taps_level.Tie as tie
 
@@ -17,7 +16,7 @@ abbrev μ-loop : tie.MeasureT-loop
 
 loop-holds : tie.Need-loop-holds Inv-loop μ-loop
 unfolding tapsLevelOf
-loop-holds c = (search needs, omega (arith, c .used .ensures, used-at-most (c .before .args .t1)), c .used .ensures, refl)
+loop-holds c = (search needs, c .at-most .ensures .2, c .at-most .ensures .0, refl)
 
 loop-again : tie.Need-loop-again Inv-loop μ-loop
 unfolding tapsLevelOf

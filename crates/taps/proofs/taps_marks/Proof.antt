@@ -3,12 +3,11 @@ use Prim.Native.Nat.{ℕ, _-_, _≤_}
 use mathlib.Core.Path.{_≡_, ap, _∙_}
 use borrow.Author.Needs.{needs}
 use native.Mathlib.Numerals.{add-one}
-use native.Mathlib.Omega.{arith}
 use Rattle.generator.specs.Marks.{noMarks, stored}
 use Rattle.generator.proofs.Stored.{push-more}
 use Rattle.taps.specs.Formula.{usedOf}
 use Rattle.taps.specs.Marks.{tapMarks}
-use Rattle.taps.proofs.UsedTaps.{used-at-most, all-used}
+use Rattle.taps.proofs.UsedTaps.{all-used}
 use Rattle.taps.proofs.taps_marks.Statement.{statement}
 use Rattle.taps.proofs.taps_marks.Tie as tie
 
@@ -20,7 +19,7 @@ abbrev μ-loop : tie.MeasureT-loop
 
 loop-holds : tie.Need-loop-holds Inv-loop μ-loop
 unfolding tapMarks noMarks
-loop-holds c = (search needs, omega (arith, c .before .used .ensures, used-at-most (c .before .before .args .t1)), c .before .used .ensures, c .no-marks .ensures)
+loop-holds c = (search needs, c .before .at-most .ensures .2, c .before .at-most .ensures .0, c .no-marks .ensures)
 
 loop-again : tie.Need-loop-again Inv-loop μ-loop
 unfolding tapMarks

@@ -1,15 +1,15 @@
--- `place` is `placeOf`. The loop's invariant: the place is i past that among the bytes from i on. Assumes nothing.
+-- `place` is `indexOf`. The loop's invariant: the place is i past that among the bytes from i on. Assumes nothing.
 use mathlib.Core.Path.{_≡_}
 use Prim.Native.Nat.{_+_, _-_, _≤_}
 use borrow.Author.Needs.{needs}
 use lib.ListN.{length, drop}
-use Rattle.text.specs.Words.{placeOf}
+use Rattle.text.specs.Words.{indexOf}
 use Rattle.text.proofs.Words.{place-here, place-further, place-none}
 use Rattle.text.proofs.place.Statement.{statement}
 use Rattle.text.proofs.place.Tie as tie
 
 abbrev Inv-loop : tie.InvT-loop
-Inv-loop list b i₀ i = (i ≤ length list) × (placeOf list b ≡ i + placeOf (drop i list) b)
+Inv-loop list b i₀ i = (i ≤ length list) × (indexOf list b ≡ i + indexOf (drop i list) b)
 
 abbrev μ-loop : tie.MeasureT-loop
 μ-loop list b i₀ i = length list - i

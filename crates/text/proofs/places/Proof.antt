@@ -1,15 +1,15 @@
--- `places` is `placesOf`. The loop's invariant: no number below k is the answer. Assumes nothing.
+-- `places` is `digitCount`. The loop's invariant: no number below k is the answer. Assumes nothing.
 use mathlib.Core.Path.{_≡_, refl, sym, _∙_}
 use Prim.Native.Nat.{_-_, _≤_}
 use native.Mathlib.Omega.{arith}
 use borrow.Author.Needs.{needs}
-use Rattle.text.specs.Spelled.{placesFrom, placesOf}
+use Rattle.text.specs.Spelled.{placesFrom, digitCount}
 use Rattle.text.proofs.Digits.{ten-fits, places-hold, places-pass, places-last}
 use Rattle.text.proofs.places.Statement.{statement}
 use Rattle.text.proofs.places.Tie as tie
 
 abbrev Inv-loop : tie.InvT-loop
-Inv-loop n k₀ k = (1 ≤ k) × (k ≤ 20) × (placesFrom (20 - k) k n ≡ placesOf n)
+Inv-loop n k₀ k = (1 ≤ k) × (k ≤ 20) × (placesFrom (20 - k) k n ≡ digitCount n)
 
 abbrev μ-loop : tie.MeasureT-loop
 μ-loop n k₀ k = 20 - k

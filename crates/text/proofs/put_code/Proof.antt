@@ -1,16 +1,16 @@
--- `put_code` puts `codeOf`. Assumes nothing.
+-- `put_code` puts `hexByteOf`. Assumes nothing.
 use mathlib.Core.Path.{_≡_, refl}
 use mathlib.Core.List.{[], _∷_, _++_}
 use Prim.Native.Nat.{ℕ, _/_, _%_}
 use Rattle.text.specs.Text.{ascii}
-use Rattle.text.specs.Escaped.{upperOf, codeOf}
+use Rattle.text.specs.Escaped.{upperOf, hexByteOf}
 use Rattle.text.proofs.Writing.{_⨾_, puts-as}
 use borrow.Author.Needs.{needs}
 use Rattle.text.proofs.put_code.Statement.{statement}
 use Rattle.text.proofs.put_code.Tie as tie
 
-code : (b u v : ℕ) → u ≡ upperOf (b / 16) → v ≡ upperOf (b % 16) → ascii "\\x" ++ (u ∷ []) ++ (v ∷ []) ≡ codeOf b
-unfolding codeOf
+code : (b u v : ℕ) → u ≡ upperOf (b / 16) → v ≡ upperOf (b % 16) → ascii "\\x" ++ (u ∷ []) ++ (v ∷ []) ≡ hexByteOf b
+unfolding hexByteOf
 code b u v eu ev = rw (eu, ev)
 
 returns : tie.Need-returns

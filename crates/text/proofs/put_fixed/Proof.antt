@@ -29,7 +29,7 @@ put-digits-requires : tie.Need-put-digits-requires
 put-digits-requires c κs = (search needs, search needs, ten-fits _ (omega arith))
 
 returns : tie.Need-returns
-returns c = puts-as (fixed _ _ _ _ (c .before .before .before .before .before .before .before .before .before .before .before .before .before .before .places-shown .ensures .0) (c .before .before .before .before .before .before .before .before .before .before .before .before .before .power .ensures)) (c .before .before .before .before .before .before .before .before .before .before .before .put-decimal .ensures ⨾ c .before .before .before .before .before .before .put .ensures ⨾ c .before .before .put-digits .ensures)
+returns c = puts-as (fixed _ _ _ _ (c .before .before .before .before .before .before .before .before .before .before .before .before .before .before .at-most .ensures .0) (c .before .before .before .before .before .before .before .before .before .before .before .before .before .power .ensures)) (c .before .before .before .before .before .before .before .before .before .before .before .put-decimal .ensures ⨾ c .before .before .before .before .before .before .put .ensures ⨾ c .before .before .put-digits .ensures)
 
 pub put-fixed-spec : {M : Type 1} → statement M
 put-fixed-spec =

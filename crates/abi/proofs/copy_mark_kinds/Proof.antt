@@ -1,4 +1,4 @@
--- `lay_mark_kinds` writes the first places of its array and leaves the others. The loop's invariant: those before i are written. Assumes nothing.
+-- `copy_mark_kinds` writes the first places of its array and leaves the others. The loop's invariant: those before i are written. Assumes nothing.
 use mathlib.Core.Path.{_≡_, refl, _∙_}
 use Prim.Native.Nat.{_≤_, _-_}
 use native.Mathlib.Nat.{le-antisymm}
@@ -6,8 +6,8 @@ use borrow.Author.Needs.{needs}
 use Rattle.abi.specs.Arrays.{markKind, marksUsed}
 use Rattle.lists.specs.Written.{written}
 use Rattle.lists.proofs.Written.{written-next, written-whole}
-use Rattle.abi.proofs.lay_mark_kinds.Statement.{statement}
-use Rattle.abi.proofs.lay_mark_kinds.Tie as tie
+use Rattle.abi.proofs.copy_mark_kinds.Statement.{statement}
+use Rattle.abi.proofs.copy_mark_kinds.Tie as tie
 
 abbrev Inv-loop : tie.InvT-loop
 Inv-loop out₀ marks count i₀ out i = (i ≤ count) × (count ≤ 6) × (count ≡ marksUsed marks) × (out ≡ written (markKind marks) i out₀)
@@ -25,8 +25,8 @@ loop-again c = let inv = c .before .before .before .loop .inv in (search needs, 
 returns : tie.Need-returns Inv-loop μ-loop
 returns c = written-whole _ _ _ _ (le-antisymm (c .before .loop .inv .0) (c .loop-test .left) ∙ c .before .loop .inv .2) (c .before .loop .inv .3)
 
-pub lay-mark-kinds-spec : {M : Type 1} → statement M
-lay-mark-kinds-spec =
+pub copy-mark-kinds-spec : {M : Type 1} → statement M
+copy-mark-kinds-spec =
     tie.close
     (tie.spec
     Inv-loop

@@ -1,4 +1,4 @@
--- `lay_mark_positions` writes the first places of its array and leaves the others. The loop's invariant: those before i are written. Assumes nothing.
+-- `copy_mark_positions` writes the first places of its array and leaves the others. The loop's invariant: those before i are written. Assumes nothing.
 use mathlib.Core.Path.{_≡_, refl, _∙_}
 use Prim.Native.Nat.{_≤_, _-_}
 use native.Mathlib.Nat.{le-antisymm}
@@ -6,8 +6,8 @@ use borrow.Author.Needs.{needs}
 use Rattle.abi.specs.Arrays.{markPosition, marksUsed}
 use Rattle.lists.specs.Written.{written}
 use Rattle.lists.proofs.Written.{written-next, written-whole}
-use Rattle.abi.proofs.lay_mark_positions.Statement.{statement}
-use Rattle.abi.proofs.lay_mark_positions.Tie as tie
+use Rattle.abi.proofs.copy_mark_positions.Statement.{statement}
+use Rattle.abi.proofs.copy_mark_positions.Tie as tie
 
 abbrev Inv-loop : tie.InvT-loop
 Inv-loop out₀ marks count i₀ out i = (i ≤ count) × (count ≤ 6) × (count ≡ marksUsed marks) × (out ≡ written (markPosition marks) i out₀)
@@ -25,8 +25,8 @@ loop-again c = (search needs, c .before .loop .inv .1, c .before .loop .inv .2, 
 returns : tie.Need-returns Inv-loop μ-loop
 returns c = written-whole _ _ _ _ (le-antisymm (c .before .loop .inv .0) (c .loop-test .left) ∙ c .before .loop .inv .2) (c .before .loop .inv .3)
 
-pub lay-mark-positions-spec : {M : Type 1} → statement M
-lay-mark-positions-spec =
+pub copy-mark-positions-spec : {M : Type 1} → statement M
+copy-mark-positions-spec =
     tie.close
     (tie.spec
     Inv-loop
