@@ -11,7 +11,7 @@ use Rattle.codes.specs.declared.CodeRead.the-variants.{Known}
 use Rattle.codes.specs.Codes.{codeOf}
 use Rattle.codes.specs.Bytes.{Agree, bytesOf, byteAt, blockLength}
 use Rattle.block.specs.Shapes.{envelopeAt, lfoAt, oscillatorAt, shapeOf}
-use Rattle.block.specs.Refusals.{chosenBy, chosenOf}
+use Rattle.block.specs.Refusals.{settledBy, settledOf, chosenBy, chosenOf}
 
 -- ---- THE THEOREM
 pub agreement : (c : Code) (a b : ℕ → ℕ) → Agree (bytesOf c) a b → shapeOf c a ≡ shapeOf c b
@@ -29,5 +29,5 @@ agreement Noise a b h = simp (h .0)
 -- two blocks
 pub agreement-chosen : (c : Code) (x y : List ℕ) (code : ℕ) → length x ≡ blockLength → length y ≡ blockLength → codeOf code ≡ Known c → Agree (bytesOf c) (byteAt x) (byteAt y)
     → chosenOf x code ≡ chosenOf y code
-unfolding chosenOf chosenBy
+unfolding chosenOf chosenBy settledOf settledBy
 agreement-chosen c x y code lx ly e h = simp (lx, ly, e, agreement c (byteAt x) (byteAt y) h)

@@ -15,14 +15,14 @@ use Rattle.block.specs.declared.HeightAnswer.the-variants.{Height as AHe
 use Rattle.codes.specs.Codes.{codeOf}
 use Rattle.codes.specs.Bytes.{byteAt, blockLength}
 use Rattle.block.specs.Shapes.{shapeOf}
-use Rattle.block.specs.Refusals.{chosenBy, chosenOf, heightAnswer}
+use Rattle.block.specs.Refusals.{settledBy, settledOf, chosenBy, chosenOf, heightAnswer}
 use Rattle.block.specs.Promises.{HeightAnswered}
 use Rattle.block.proofs.EveryCode.{block-height}
 
 -- a block of 242 bytes and a known code are given a height
 accepted : (block : List ℕ) (code : ℕ) (t : Float) (c : Code) → codeOf code ≡ Known c → length block ≡ blockLength
     → heightAnswer (chosenOf block code) t ≡ AHeight (heightOf (shapeOf c (byteAt block)) t)
-unfolding heightAnswer chosenOf chosenBy generatorOf
+unfolding heightAnswer chosenOf chosenBy settledOf settledBy generatorOf
 accepted block code t c k l = simp (eq-eqb (length block) blockLength l, k)
 
 pub height-answered : (block : List ℕ) (code : ℕ) (t : Float) (r : HeightAnswer) → ((n : ℕ) → byteAt block n < 256) → T (fits binary32 t) → r ≡ heightAnswer (chosenOf block code) t

@@ -30,7 +30,7 @@ use Rattle.block.specs.declared.Chosen.the-variants.{Generator as AGener
 use Rattle.codes.specs.Codes.{codes, codeIn, codeOf}
 use Rattle.codes.specs.Bytes.{bytesOf, blockLength}
 use Rattle.block.specs.Shapes.{envelopeAt, lfoAt, oscillatorAt, shapeOf}
-use Rattle.block.specs.Refusals.{chosenBy, chosenOf}
+use Rattle.block.specs.Refusals.{settledBy, settledOf, chosenBy, chosenOf}
 use Rattle.refusals.specs.Refusals.{refusalNumber}
 
 -- ---- refusals
@@ -47,7 +47,7 @@ gives : ℕ × ℕ × ℕ → Bool
 gives r = eqb (answered (chosenOf (replicate (r .0) 0) (r .1))) (r .2)
 
 refusals-agree : T (allPass gives rows)
-unfolding allPass gives rows answered refusalNumber chosenBy chosenOf codes codeIn
+unfolding allPass gives rows answered chosenBy chosenOf settledOf settledBy codes codeIn
 refusals-agree = tt
 
 -- ---- settings

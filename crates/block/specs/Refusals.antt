@@ -12,6 +12,8 @@ use Rattle.refusals.specs.declared.Refusal.{Refusal}
 use Rattle.refusals.specs.declared.Refusal.the-variants.{Block, Code, Strip}
 use Rattle.codes.specs.declared.CodeRead.{CodeRead}
 use Rattle.codes.specs.declared.CodeRead.the-variants.{Known, Above}
+use Rattle.block.specs.declared.Settled.{Settled}
+use Rattle.block.specs.declared.Settled.the-variants.{Known as KnownCode, Refused as NoCode}
 use Rattle.block.specs.declared.Chosen.{Chosen}
 use Rattle.block.specs.declared.Chosen.the-variants.{Generator as AGenerator, Refused}
 use Rattle.block.specs.declared.HeightAnswer.{HeightAnswer}
@@ -22,19 +24,21 @@ use Rattle.codes.specs.Codes.{codeOf}
 use Rattle.codes.specs.Bytes.{byteAt, blockLength}
 use Rattle.block.specs.Shapes.{shapeOf}
 
-unfoldable pub refusalNumber : Refusal → ℕ
-refusalNumber Block = 1
-refusalNumber Code = 2
-refusalNumber Strip = 3
+-- What a block and a code's number come to. The block's length is tested first, then the code.
+unfoldable pub settledBy : CodeRead → Settled
+settledBy (Known c) = KnownCode c
+settledBy Above = NoCode Code
+
+unfoldable pub settledOf : List ℕ → ℕ → Settled
+settledOf block code = cond (eqb (length block) blockLength) (settledBy (codeOf code)) (NoCode Block)
 
 -- A known code gives the generator of the bytes that it reads.
-unfoldable pub chosenBy : CodeRead → (ℕ → ℕ) → Chosen
-chosenBy (Known c) b = AGenerator (generatorOf (shapeOf c b))
-chosenBy Above b = Refused Code
+unfoldable pub chosenBy : Settled → (ℕ → ℕ) → Chosen
+chosenBy (KnownCode c) b = AGenerator (generatorOf (shapeOf c b))
+chosenBy (NoCode r) b = Refused r
 
--- The block's length is tested first, then the code.
 unfoldable pub chosenOf : List ℕ → ℕ → Chosen
-chosenOf block code = cond (eqb (length block) blockLength) (chosenBy (codeOf code) (byteAt block)) (Refused Block)
+chosenOf block code = chosenBy (settledOf block code) (byteAt block)
 
 -- The height of what is chosen, at any f32.
 unfoldable pub heightAnswer : Chosen → Float → HeightAnswer

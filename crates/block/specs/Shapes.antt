@@ -11,7 +11,7 @@ use Rattle.codes.specs.declared.OscillatorId.{OscillatorId}
 use Rattle.codes.specs.declared.OscillatorId.the-variants.{One, Two}
 use Rattle.codes.specs.declared.Code.{Code}
 use Rattle.codes.specs.declared.Code.the-variants.{Envelope as TheEnvelope, Lfo as TheLfo, LfoUnipolar, Fade, LowPass, HighPass, Oscillator as TheOscillator, Noise}
-use Rattle.codes.specs.Bytes.{fadeByte, lfoFirst, envelopeFirst}
+use Rattle.codes.specs.Bytes.{sourceByte, pulseByte, sawByte, depthByte, oscillatorTwoByte, noiseByte, resonanceByte, poleByte, envelopeFirst, lfoFirst, fadeByte}
 
 -- The envelope of the bytes from n on: four times and levels, then, past one byte, their four curves.
 unfoldable pub envelopeAt : (ℕ → ℕ) → ℕ → Envelope
@@ -22,8 +22,8 @@ unfoldable pub lfoAt : (ℕ → ℕ) → ℕ → Bool → Lfo
 lfoAt b n unipolar = lfoOf (b n) (b (n + 4)) (b (n + 1)) unipolar
 
 unfoldable pub oscillatorAt : (ℕ → ℕ) → OscillatorId → Oscillator
-oscillatorAt b One = oscillatorOneOf (b 16) (b 18) (b 19) (b 25)
-oscillatorAt b Two = oscillatorTwoOf (b 26)
+oscillatorAt b One = oscillatorOneOf (b sourceByte) (b pulseByte) (b sawByte) (b depthByte)
+oscillatorAt b Two = oscillatorTwoOf (b oscillatorTwoByte)
 
 -- The shape of a code, from a reading.
 unfoldable pub shapeOf : Code → (ℕ → ℕ) → Shape
@@ -31,7 +31,7 @@ shapeOf (TheEnvelope id) b = AnEnvelope (envelopeAt b (envelopeFirst id))
 shapeOf (TheLfo id) b = AnLfo (lfoAt b (lfoFirst id) false)
 shapeOf (LfoUnipolar id) b = AnLfo (lfoAt b (lfoFirst id) true)
 shapeOf (Fade id) b = AFade (fadeOf (b (fadeByte id)))
-shapeOf LowPass b = AFilter (lowPassOf (b 41) (b 51))
+shapeOf LowPass b = AFilter (lowPassOf (b resonanceByte) (b poleByte))
 shapeOf HighPass b = AFilter highPassOf
 shapeOf (TheOscillator id) b = AnOscillator (oscillatorAt b id)
-shapeOf Noise b = ANoise (noiseOf (b 33))
+shapeOf Noise b = ANoise (noiseOf (b noiseByte))

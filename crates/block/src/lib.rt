@@ -1,20 +1,28 @@
 // A block of a program's bytes and a generator's code, read as a generator or refused; the height and the strip of what is read.
 ghost use mathlib.Core.Path.{_≡_};
+ghost use Prim.Native.Nat.{_≤_};
 ghost use lib.ListN.{length};
-ghost use Rattle.generator.specs.Heights.{heightOf};
-ghost use Rattle.strip.specs.Strip.{stepsOf, stripOf};
 ghost use Rattle.settings.specs.Settings.{fadeOf};
-ghost use Rattle.codes.specs.Bytes.{fadeByte, lfoFirst, envelopeFirst, byteAt, blockLength};
+ghost use Rattle.generator.specs.Heights.{heightOf};
+ghost use Rattle.strip.specs.Strip.{filledOf, stepSum};
+ghost use Rattle.codes.specs.Bytes.{byteAt, blockLength, envelopeFirst, lfoFirst, fadeByte};
 ghost use Rattle.block.specs.Shapes.{envelopeAt, lfoAt, oscillatorAt, shapeOf};
-ghost use Rattle.block.specs.Refusals.{chosenOf, stripAnswer, stripAfter};
-ghost use Rattle.refusals.specs.Refusals.{refusalNumber};
+ghost use Rattle.block.specs.Refusals.{settledOf, chosenOf, stripAnswer, stripAfter};
 ghost use Rattle.block.specs.Promises.{HeightAnswered};
 use codes::Code;
 use codes::CodeRead;
+use codes::DEPTH;
 use codes::EnvelopeId;
 use codes::LfoId;
+use codes::NOISE_LEVEL;
+use codes::OSCILLATOR_TWO_LEVEL;
 use codes::OscillatorId;
-use codes::code_from;
+use codes::POLE;
+use codes::PULSE;
+use codes::RESONANCE;
+use codes::SAW;
+use codes::SOURCE;
+use codes::code_read;
 use codes::envelope_first;
 use codes::fade_byte;
 use codes::lfo_first;
@@ -28,6 +36,7 @@ use generator::of_shape;
 use lfo::lfo_height;
 use noise::noise_height;
 use oscillator::oscillator_height;
+use refusals::Refusal;
 use settings::Envelope;
 use settings::Fade;
 use settings::Lfo;
@@ -48,11 +57,10 @@ use strip::fill_noise;
 use strip::fill_oscillator;
 use strip::fits;
 
-// Why an input is refused: the block's length, the code, the strip's length.
-pub enum Refusal {
-    Block,
-    Code,
-    Strip,
+// What a block and a code's number come to.
+pub enum Settled {
+    Known(Code),
+    Refused(Refusal),
 }
 
 pub enum Chosen {
@@ -65,6 +73,7 @@ pub enum HeightAnswer {
     Refused(Refusal),
 }
 
+// The sum of the samples' steps.
 pub enum StripAnswer {
     Filled(u32),
     Refused(Refusal),
@@ -72,16 +81,6 @@ pub enum StripAnswer {
 
 // The bytes of a block.
 pub const BLOCK: usize = 242;
-
-pub fn refusal_number(r: Refusal) -> u32
-    ensures { λ n. ⌜ n ≡ refusalNumber r ⌝ }
-{
-    match r {
-        Refusal::Block => 1,
-        Refusal::Code => 2,
-        Refusal::Strip => 3,
-    }
-}
 
 // ---- settings, from the bytes of a whole block
 // The four times and levels from a byte on; one byte between them and their curves is not read.
@@ -124,13 +123,18 @@ fn oscillator_at(block: &[u8], id: OscillatorId) -> Oscillator
     ensures { λ r. ⌜ r ≡ oscillatorAt (byteAt (now (block .entry))) id ⌝ }
 {
     match id {
-        OscillatorId::One => oscillator_one_from(block[16], block[18], block[19], block[25]),
-        OscillatorId::Two => oscillator_two_from(block[26]),
+        OscillatorId::One => oscillator_one_from(
+            block[SOURCE],
+            block[PULSE],
+            block[SAW],
+            block[DEPTH],
+        ),
+        OscillatorId::Two => oscillator_two_from(block[OSCILLATOR_TWO_LEVEL]),
     }
 }
 
 // The shape of a code, from the bytes that the code reads.
-fn shape_at(block: &[u8], code: Code) -> Shape
+pub fn shape_at(block: &[u8], code: Code) -> Shape
     requires { ⌜ length (now block) ≡ blockLength ⌝ }
     ensures { λ r. ⌜ r ≡ shapeOf code (byteAt (now (block .entry))) ⌝ }
 {
@@ -139,10 +143,10 @@ fn shape_at(block: &[u8], code: Code) -> Shape
         Code::Lfo(id) => Shape::Lfo(lfo_at(block, id, false)),
         Code::LfoUnipolar(id) => Shape::Lfo(lfo_at(block, id, true)),
         Code::Fade(id) => Shape::Fade(fade_at(block, id)),
-        Code::LowPass => Shape::Filter(low_pass_from(block[41], block[51])),
+        Code::LowPass => Shape::Filter(low_pass_from(block[RESONANCE], block[POLE])),
         Code::HighPass => Shape::Filter(high_pass()),
         Code::Oscillator(id) => Shape::Oscillator(oscillator_at(block, id)),
-        Code::Noise => Shape::Noise(noise_from(block[33])),
+        Code::Noise => Shape::Noise(noise_from(block[NOISE_LEVEL])),
     }
 }
 
@@ -156,54 +160,62 @@ fn height_at(block: &[u8], code: Code, t: f32) -> Height
         Code::Lfo(id) => lfo_height(lfo_at(block, id, false), t),
         Code::LfoUnipolar(id) => lfo_height(lfo_at(block, id, true), t),
         Code::Fade(id) => fade_height(fade_at(block, id), t),
-        Code::LowPass => filter_height(low_pass_from(block[41], block[51]), t),
+        Code::LowPass => filter_height(low_pass_from(block[RESONANCE], block[POLE]), t),
         Code::HighPass => filter_height(high_pass(), t),
         Code::Oscillator(id) => oscillator_height(oscillator_at(block, id), t),
-        Code::Noise => noise_height(noise_from(block[33]), t),
+        Code::Noise => noise_height(noise_from(block[NOISE_LEVEL]), t),
     }
 }
 
-// The strip of a code's shape, which is never stored here either.
-fn strip_at(block: &[u8], code: Code, out: &mut [f32]) -> u32
-    requires { ⌜ length (now block) ≡ blockLength ⌝ }
-    ensures { λ r. ⌜ (r ≡ stepsOf (shapeOf code (byteAt (now (block .entry)))) (length (now (out .entry)))) × (now (out .exit) ≡ stripOf (shapeOf code (byteAt (now (block .entry)))) (now (out .entry))) ⌝ }
+// The strip of a code's shape, which is never stored here either. The caller has tested both lengths.
+pub fn strip_at(block: &[u8], code: Code, out: &mut [f32]) -> u32
+    requires { ⌜ (length (now block) ≡ blockLength) × (2 ≤ length (now out)) × (length (now out) ≤ 4096) ⌝ }
+    ensures { λ r. ⌜ (r ≡ stepSum (shapeOf code (byteAt (now (block .entry)))) (length (now (out .entry))) (length (now (out .entry)))) × (now (out .exit) ≡ filledOf (shapeOf code (byteAt (now (block .entry)))) (length (now (out .entry))) (length (now (out .entry))) (now (out .entry))) ⌝ }
 {
     match code {
         Code::Envelope(id) => fill_envelope(envelope_at(block, id), out),
         Code::Lfo(id) => fill_lfo(lfo_at(block, id, false), out),
         Code::LfoUnipolar(id) => fill_lfo(lfo_at(block, id, true), out),
         Code::Fade(id) => fill_fade(fade_at(block, id), out),
-        Code::LowPass => fill_filter(low_pass_from(block[41], block[51]), out),
+        Code::LowPass => fill_filter(low_pass_from(block[RESONANCE], block[POLE]), out),
         Code::HighPass => fill_filter(high_pass(), out),
         Code::Oscillator(id) => fill_oscillator(oscillator_at(block, id), out),
-        Code::Noise => fill_noise(noise_from(block[33]), out),
+        Code::Noise => fill_noise(noise_from(block[NOISE_LEVEL]), out),
     }
 }
 
 // ---- the block's length is tested first, then the code
-pub fn choose(block: &[u8], code: u8) -> Chosen
-    ensures { λ r. ⌜ r ≡ chosenOf (now (block .entry)) code ⌝ }
+pub fn settle(block: &[u8], code: u32) -> Settled
+    ensures { λ r. ⌜ r ≡ settledOf (now (block .entry)) code ⌝ }
 {
     if block.len() != BLOCK {
-        return Chosen::Refused(Refusal::Block);
+        return Settled::Refused(Refusal::Block);
     }
-    let read = code_from(code);
+    let read = code_read(code);
     match read {
-        CodeRead::Known(c) => Chosen::Generator(of_shape(shape_at(block, c))),
-        CodeRead::Above => Chosen::Refused(Refusal::Code),
+        CodeRead::Known(c) => Settled::Known(c),
+        CodeRead::Above => Settled::Refused(Refusal::Code),
     }
 }
 
-// The height of what `choose` chooses.
-pub fn height(block: &[u8], code: u8, t: f32) -> HeightAnswer
+// The generator of what is settled.
+pub fn choose(block: &[u8], code: u32) -> Chosen
+    ensures { λ r. ⌜ r ≡ chosenOf (now (block .entry)) code ⌝ }
+{
+    let settled = settle(block, code);
+    match settled {
+        Settled::Known(c) => Chosen::Generator(of_shape(shape_at(block, c))),
+        Settled::Refused(r) => Chosen::Refused(r),
+    }
+}
+
+// The height of what is settled.
+pub fn height(block: &[u8], code: u32, t: f32) -> HeightAnswer
     ensures { λ r. ⌜ HeightAnswered (now (block .entry)) code t r ⌝ }
 {
-    if block.len() != BLOCK {
-        return HeightAnswer::Refused(Refusal::Block);
-    }
-    let read = code_from(code);
-    match read {
-        CodeRead::Known(c) => {
+    let settled = settle(block, code);
+    match settled {
+        Settled::Known(c) => {
             let drawn = height_at(block, c, t);
             // field by field: a copy of the whole would wait for the two stores that made it
             HeightAnswer::Height(Height {
@@ -211,26 +223,23 @@ pub fn height(block: &[u8], code: u8, t: f32) -> HeightAnswer
                 steps: drawn.steps,
             })
         }
-        CodeRead::Above => HeightAnswer::Refused(Refusal::Code),
+        Settled::Refused(r) => HeightAnswer::Refused(r),
     }
 }
 
-// The strip of what `choose` chooses: from the left edge to the right. What is refused leaves it as it was.
-pub fn strip(block: &[u8], code: u8, out: &mut [f32]) -> StripAnswer
+// The strip of what is settled, from the left edge to the right; its length is tested last. What is refused leaves it as it was.
+pub fn strip(block: &[u8], code: u32, out: &mut [f32]) -> StripAnswer
     ensures { λ r. ⌜ (r ≡ stripAnswer (chosenOf (now (block .entry)) code) (length (now (out .entry)))) × (now (out .exit) ≡ stripAfter (chosenOf (now (block .entry)) code) (now (out .entry))) ⌝ }
 {
-    if block.len() != BLOCK {
-        return StripAnswer::Refused(Refusal::Block);
-    }
-    let read = code_from(code);
-    match read {
-        CodeRead::Known(c) => {
+    let settled = settle(block, code);
+    match settled {
+        Settled::Known(c) => {
             if !fits(out.len()) {
                 return StripAnswer::Refused(Refusal::Strip);
             }
             let steps = strip_at(block, c, out);
             StripAnswer::Filled(steps)
         }
-        CodeRead::Above => StripAnswer::Refused(Refusal::Code),
+        Settled::Refused(r) => StripAnswer::Refused(r),
     }
 }

@@ -6,12 +6,12 @@ ghost use Rattle.api.specs.Answers.{settingsAnswer, restAnswer, scaleAnswer, an
 ghost use Rattle.juvrada.specs.Results.{answerNumber, heightResult, stripResult, restResult, scaleResult, anchoredResult, settingsResult, settingsAfter, tapsOf, tapsAnswer};
 ghost use Rattle.juvrada.specs.Promises.{HeightReturned, StripReturned, MarksReturned, GatesReturned, TapsReturned};
 use abi::MAX_SETTINGS;
-use abi::gates_used;
 use abi::copy_gate_ends;
 use abi::copy_gate_starts;
 use abi::copy_mark_kinds;
 use abi::copy_mark_positions;
 use abi::copy_settings;
+use abi::gates_used;
 use abi::marks_used;
 use abi::scale_number;
 use abi::scale_value;

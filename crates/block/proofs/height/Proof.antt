@@ -1,40 +1,39 @@
--- `height` is `heightAnswer` of what is chosen: a return for each refusal and one for the height. The rest follows from the equation. Assumes nothing.
-use mathlib.Core.Path.{sym, subst}
-use lib.Dec.{T}
-use borrow.Author.Tests.{eq-eqb, ne-eqb}
-use Rattle.generator.specs.Generator.{generatorOf}
-use Rattle.block.specs.Refusals.{chosenBy, chosenOf, heightAnswer}
+-- `height` is `heightAnswer` of what is chosen: the height, or the refusal. The rest follows from the equation. Assumes nothing.
+use Rattle.block.proofs.KnownCode.{settled-length}
 use Rattle.block.proofs.Answered.{height-answered}
+use Rattle.block.specs.Refusals.{chosenBy, chosenOf, heightAnswer}
+use Rattle.generator.specs.Generator.{generatorOf}
+use lib.Dec.{T}
+use mathlib.Core.Path.{sym, subst, _∙_}
 use borrow.Author.Needs.{needs}
 use Rattle.block.proofs.height.Statement.{statement}
 use Rattle.block.proofs.height.Tie as tie
 
+-- src/lib.rt:219:17
+height-at-requires : tie.Need-height-at-requires
+height-at-requires c κs = settled-length _ _ _ (sym (c .before .settled .given .1) ∙ c .before .before .before .settle .ensures)
+
+-- src/lib.rt:213:1
 returns : tie.Need-returns
 unfolding chosenOf chosenBy heightAnswer generatorOf
 returns c =
-    height-answered _ _ _ _ (λ n. c .before .shared-slice-known .given n .fits) (subst T (sym (c .before .before .good .1 .1 .0 .1)) tt)
-    (simp (ne-eqb _ _ (c .if1 .taken)))
+    height-answered _ _ _ _ (λ n. c .before .before .before .before .before .shared-slice-known .given n .fits) (subst T (sym (c .before .before .before .before .before .before .good .1 .1 .0 .1)) tt)
+    (simp (sym (c .before .before .before .before .settle .ensures), c .before .before .settled .given .1, c .height-at .ensures))
 
+-- src/lib.rt:213:1
 returns-2 : tie.Need-returns-2
 unfolding chosenOf chosenBy heightAnswer generatorOf
 returns-2 c =
-    height-answered _ _ _ _ (λ n. c .before .before .before .before .before .before .shared-slice-known .given n .fits) (subst T (sym (c .before .before .before .before .before .before .before .good .1 .1 .0 .1)) tt)
-    (simp (eq-eqb _ _ (c .before .before .before .before .before .if1 .left), sym (c .before .before .before .before .code-from .ensures), c .before .before .read .given .1, c .height-at .ensures))
-
-returns-3 : tie.Need-returns-3
-unfolding chosenOf chosenBy heightAnswer generatorOf
-returns-3 c =
     height-answered _ _ _ _ (λ n. c .before .before .before .before .shared-slice-known .given n .fits) (subst T (sym (c .before .before .before .before .before .good .1 .1 .0 .1)) tt)
-    (simp (eq-eqb _ _ (c .before .before .before .if1 .left), sym (c .before .before .code-from .ensures), c .enum-told .given .1))
+    (simp (sym (c .before .before .before .settle .ensures), c .before .settled2 .given .1))
 
 pub height-spec : {M : Type 1} → statement M
 height-spec =
     tie.close
     (tie.spec
+    (λ c κs. search needs)
+    (λ c. search needs)
+    height-at-requires
+    (λ c. search needs)
     returns
-    (λ c κs. search needs)
-    (λ c. search needs)
-    (λ c κs. search needs)
-    (λ c. search needs)
-    returns-2
-    returns-3)
+    returns-2)

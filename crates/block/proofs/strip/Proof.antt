@@ -1,55 +1,58 @@
 -- `strip` answers as `stripAnswer` says and leaves what `stripAfter` says: a return for each refusal and one for the strip that is filled. Assumes nothing.
-use mathlib.Core.Path.{sym, _∙_}
-use borrow.Author.Tests.{eq-eqb, ne-eqb, not-true, not-false}
-use Rattle.generator.specs.Generator.{generatorOf}
-use Rattle.strip.specs.Strip.{stripOf}
+use Rattle.block.proofs.KnownCode.{settled-length}
 use Rattle.block.specs.Refusals.{chosenBy, chosenOf, stripAnswer, stripAfter}
+use Rattle.strip.proofs.Lengths.{between}
+use Rattle.strip.specs.Strip.{stepsOf, stripOf}
+use Rattle.generator.specs.Generator.{generatorOf}
+use borrow.Author.Tests.{not-true, not-false}
+use mathlib.Core.Path.{sym, _∙_}
 use borrow.Author.Needs.{needs}
 use Rattle.block.proofs.strip.Statement.{statement}
 use Rattle.block.proofs.strip.Tie as tie
 
+-- src/lib.rt:238:17
 returns : tie.Need-returns
-unfolding chosenOf chosenBy stripAnswer stripAfter
-returns c = let e = ne-eqb _ _ (c .if1 .taken) in (simp e, simp e)
-
-returns-2 : tie.Need-returns-2
 unfolding chosenOf chosenBy stripAnswer stripAfter generatorOf stripOf
+returns c =
+    let settled = sym (c .before .before .before .before .before .settle .ensures) in
+    let known = c .before .before .before .settled .given .1 in
+    let length = sym (c .before .fits2 .ensures) ∙ not-true _ (c .if1 .taken) in
+    (simp (settled, known, length), simp (settled, known, length))
+
+-- src/lib.rt:240:17
+strip-at-requires : tie.Need-strip-at-requires
+strip-at-requires c κs =
+    let l = between _ (c .before .before .fits2 .ensures) (c .before .if1 .left) in
+    (settled-length _ _ _ (sym (c .before .before .before .before .settled .given .1) ∙ c .before .before .before .before .before .before .settle .ensures), l .0, l .1)
+
+-- src/lib.rt:231:1
+returns-2 : tie.Need-returns-2
+unfolding chosenOf chosenBy stripAnswer stripAfter generatorOf stepsOf stripOf
 returns-2 c =
-    let r = c .before .before .before in
-    let e = eq-eqb _ _ (r .before .before .before .if1 .left) in
-    let code = sym (r .before .before .code-from .ensures) in
-    let length = sym (c .before .fits2 .ensures) ∙ not-true _ (c .if2 .taken) in
-    (simp (e, code, r .read .given .1, length), simp (e, code, r .read .given .1, length))
-
-returns-3 : tie.Need-returns-3
-unfolding chosenOf chosenBy stripAnswer stripAfter generatorOf
-returns-3 c =
-    let f = c .before .before .before .before in
-    let r = f .before .before .before in
+    let settled = sym (c .before .before .before .before .before .before .before .before .before .settle .ensures) in
+    let known = c .before .before .before .before .before .before .before .settled .given .1 in
+    let length = sym (c .before .before .before .before .before .fits2 .ensures) ∙ not-false _ (c .before .before .before .before .if1 .left) in
     let filled = c .before .before .strip-at .ensures in
-    let e = eq-eqb _ _ (r .before .before .before .if1 .left) in
-    let code = sym (r .before .before .code-from .ensures) in
-    let length = sym (f .before .fits2 .ensures) ∙ not-false _ (f .if2 .left) in
-    (simp (e, code, r .read .given .1, length, filled .0), simp (e, code, r .read .given .1, filled .1))
+    (simp (settled, known, length, filled .0), simp (settled, known, length, filled .1))
 
-returns-4 : tie.Need-returns-4
+-- src/lib.rt:231:1
+returns-3 : tie.Need-returns-3
 unfolding chosenOf chosenBy stripAnswer stripAfter
-returns-4 c =
-    let e = eq-eqb _ _ (c .before .before .before .if1 .left) in
-    let code = sym (c .before .before .code-from .ensures) in
-    (simp (e, code, c .enum-told .given .1), simp (e, code, c .enum-told .given .1))
+returns-3 c =
+    let settled = sym (c .before .before .before .settle .ensures) in
+    let refused = c .before .settled2 .given .1 in
+    (simp (settled, refused), simp (settled, refused))
 
 pub strip-spec : {M : Type 1} → statement M
 strip-spec =
     tie.close
     (tie.spec
+    (λ c κs. search needs)
+    (λ c. search needs)
+    (λ c κs. search needs)
     returns
-    (λ c κs. search needs)
+    strip-at-requires
     (λ c. search needs)
-    (λ c κs. search needs)
+    (λ c. search needs)
     returns-2
-    (λ c κs. search needs)
-    (λ c. search needs)
-    (λ c. search needs)
-    returns-3
-    returns-4)
+    returns-3)

