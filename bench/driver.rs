@@ -20,16 +20,13 @@ use std::ffi::CString;
 use std::hint::black_box;
 use std::time::{Duration, Instant};
 
-/// Each side's time is the best of so many rounds, in which the sides take turns. They are many and short, since other work of the machine
-/// spoils a round.
-const ROUNDS: usize = 40;
+/// How long one measurement takes at least. It is short, so that some fall between the other work of the machine.
+const MEASURED: Duration = Duration::from_micros(100);
 
-/// Fewer rounds do where they take longer than this together.
-const ENOUGH: Duration = Duration::from_millis(150);
-const FEWEST: usize = 4;
-
-/// How long one measurement takes at least.
-const MEASURED: Duration = Duration::from_micros(200);
+/// The sides take turns until each has so many measurements on a quiet core, or until that has taken too long.
+const QUIET: usize = 16;
+const ENOUGH: Duration = Duration::from_millis(300);
+const FEWEST: usize = 3;
 
 const LENGTHS: [usize; 4] = [2, 64, 512, 4096];
 
@@ -298,8 +295,26 @@ fn seconds(work: Work, side: &Side, data: &mut Data, times: u32) -> f64 {
     start.elapsed().as_secs_f64() / f64::from(times)
 }
 
-/// The best time of each side, in seconds for a call.
-fn race(work: Work, sides: &[Side], data: &mut Data) -> Vec<f64> {
+/// How long a fixed work takes that needs the whole width of the core. Two threads of a machine may share a core, and then each is slower while
+/// the other works, but not every code by as much; the gauge says whether it was so beside a measurement.
+fn gauge() -> f64 {
+    let start = Instant::now();
+    unsafe {
+        asm!("2:", "add {a}, 1", "add {b}, 1", "add {c}, 1", "add {d}, 1", "add {a}, 1", "add {b}, 1", "add {c}, 1", "add {d}, 1", "dec {n}", "jnz 2b",
+            a = inout(reg) 0u64 => _, b = inout(reg) 0u64 => _, c = inout(reg) 0u64 => _, d = inout(reg) 0u64 => _, n = inout(reg) 10_000u64 => _);
+    }
+    start.elapsed().as_secs_f64()
+}
+
+/// The best measurement of a side: seconds for a call, and the gauge beside it.
+#[derive(Clone, Copy)]
+struct Best {
+    time: f64,
+    gauge: f64,
+}
+
+/// The best of each side, quiet ones before others; `least` is the least that the gauge has shown.
+fn race(work: Work, sides: &[Side], data: &mut Data, least: &mut f64) -> Vec<Best> {
     let mut times = |side| {
         let mut n = 1;
         while seconds(work, side, data, n) * f64::from(n) < MEASURED.as_secs_f64() {
@@ -308,30 +323,43 @@ fn race(work: Work, sides: &[Side], data: &mut Data) -> Vec<f64> {
         n
     };
     let times: Vec<u32> = sides.iter().map(&mut times).collect();
-    let mut best = vec![f64::INFINITY; sides.len()];
+    let none = Best { time: f64::INFINITY, gauge: f64::INFINITY };
+    let mut best = vec![none; sides.len()];
+    let mut quiet = vec![0; sides.len()];
     let start = Instant::now();
-    for round in 0..ROUNDS {
-        if round >= FEWEST && start.elapsed() > ENOUGH {
-            break;
-        }
+    let mut round = 0;
+    while round < FEWEST || start.elapsed() < ENOUGH && quiet.iter().any(|&n| n < QUIET) {
+        round += 1;
         for (i, side) in sides.iter().enumerate() {
             // The side before has left its own traces in caches and predictors.
             if times[i] > 1 {
                 work.perform(side, data, 1);
             }
-            best[i] = best[i].min(seconds(work, side, data, times[i]));
+            let before = gauge();
+            let time = seconds(work, side, data, times[i]) / work.calls() as f64;
+            let after = gauge();
+            *least = least.min(before).min(after);
+            let now = Best { time, gauge: before.max(after) };
+            let occupied = |best: Best| best.gauge > *least * report::OCCUPIED;
+            if (occupied(now), now.time) < (occupied(best[i]), best[i].time) {
+                best[i] = now;
+            }
+            if !occupied(now) {
+                quiet[i] += 1;
+            }
         }
     }
-    best.into_iter().map(|time| time / work.calls() as f64).collect()
+    best
 }
 
 fn time(layout: usize) {
     let sides = sides();
+    let mut least = (0..1000).map(|_| gauge()).fold(f64::INFINITY, f64::min);
     let begin = layout * 20;
     figures(begin, |row, work, data| {
         assert_agreed(row, work, &sides, data);
-        for (side, time) in sides.iter().zip(race(work, &sides, data)) {
-            println!("time\t{row}\t{}\t{}\t{time:e}", work.length(), side.name);
+        for (side, best) in sides.iter().zip(race(work, &sides, data, &mut least)) {
+            println!("time\t{row}\t{}\t{}\t{:e}\t{:e}", work.length(), side.name, best.time, best.gauge);
         }
     });
     // How our strip's cost grows.
@@ -340,10 +368,10 @@ fn time(layout: usize) {
         data.program.0[2] = shape as u8;
         data.program.0[6] = slew;
         for n in LENGTHS {
-            let time = race(Work::Strip { code: 3, n }, &sides[..1], &mut data)[0];
+            let best = race(Work::Strip { code: 3, n }, &sides[..1], &mut data, &mut least)[0];
             let answer = strips(sides[0].strip[3], &data.program, 3, &mut data.room[..n], 1);
             let [_, steps] = unsafe { answer.steps.assume_init() };
-            println!("growth\t{}, slew {slew}\t{n}\t{steps}\t{time:e}", SHAPES[shape]);
+            println!("growth\t{}, slew {slew}\t{n}\t{steps}\t{:e}\t{:e}", SHAPES[shape], best.time, best.gauge);
         }
     }
 }

@@ -11,12 +11,17 @@ const BY_CODE: &[&str] = &["called2", "called3", "inlined2", "inlined3"];
 /// The reference compiled for one curve.
 const KNOWN: &[&str] = &["known2", "known3"];
 
+/// Where the gauge shows so many times the least that it has shown, something else was running on the core.
+pub const OCCUPIED: f64 = 1.2;
+
 /// A row's single height, of which the length is 1, or one of its strips: each side's numbers, one for each layout.
 #[derive(Default)]
 struct Figure {
     row: String,
     length: usize,
     sides: HashMap<String, Vec<f64>>,
+    gauges: HashMap<String, Vec<f64>>,
+    occupied: bool,
 }
 
 impl Figure {
@@ -46,10 +51,31 @@ impl Figure {
         self.ratio(OURS, self.fastest(of))
     }
 
+    fn spread(&self) -> (f64, f64) {
+        let ratios = self.ratios(OURS, self.fastest(BY_CODE));
+        let lowest = ratios.iter().copied().fold(f64::INFINITY, f64::min);
+        (lowest, ratios.iter().copied().fold(0.0, f64::max))
+    }
+
     /// How far the ratio has risen since the library before.
     fn rise(&self) -> f64 {
         let rust = self.fastest(BY_CODE);
         self.ratio(OURS, rust) - self.ratio(BEFORE, rust)
+    }
+
+    fn star(&self) -> &str {
+        if self.occupied { "*" } else { "" }
+    }
+
+    /// Leaves out the layouts in which some side was never measured on a quiet core, unless it was so in all.
+    fn keep_quiet(&mut self, least: f64) {
+        let layouts = self.gauges.values().map(Vec::len).min().unwrap_or(0);
+        let is_quiet = |layout: usize| self.gauges.values().all(|gauge| gauge[layout] <= least * OCCUPIED);
+        let quiet: Vec<usize> = (0..layouts).filter(|&layout| is_quiet(layout)).collect();
+        self.occupied = quiet.is_empty();
+        if !self.occupied {
+            self.sides.values_mut().for_each(|side| *side = quiet.iter().map(|&layout| side[layout]).collect());
+        }
     }
 }
 
@@ -60,12 +86,12 @@ fn median(numbers: &[f64]) -> f64 {
     (sorted[(n - 1) / 2] + sorted[n / 2]) / 2.0
 }
 
-fn range(numbers: &[f64]) -> (f64, f64) {
-    let lowest = numbers.iter().copied().fold(f64::INFINITY, f64::min);
-    (lowest, numbers.iter().copied().fold(0.0, f64::max))
+fn number(text: &str) -> f64 {
+    text.parse().expect("a number")
 }
 
-fn add(figures: &mut Vec<Figure>, row: &str, length: &str, side: &str, number: f64) {
+/// The figure of this row and length, which is made where there is none.
+fn figure<'a>(figures: &'a mut Vec<Figure>, row: &str, length: &str) -> &'a mut Figure {
     let length = length.parse().expect("a length");
     let at = figures.iter().position(|figure| figure.row == row && figure.length == length);
     let at = at.unwrap_or_else(|| {
@@ -73,7 +99,7 @@ fn add(figures: &mut Vec<Figure>, row: &str, length: &str, side: &str, number: f
         figures.push(Figure { row, length, ..Figure::default() });
         figures.len() - 1
     });
-    figures[at].sides.entry(side.to_string()).or_default().push(number);
+    &mut figures[at]
 }
 
 /// A table with a row for each row of the figures and a column for each length.
@@ -81,7 +107,7 @@ fn print_table(figures: &[Figure], more: &str, cell: impl Fn(&Figure) -> String,
     println!("\n| Curve | One height | Strip of 2 | of 64 | of 512 | of 4,096 |{more}");
     println!("|---|---|---|---|---|---|{}", if more.is_empty() { "" } else { "---|" });
     for row in figures.chunk_by(|a, b| a.row == b.row) {
-        let cells: String = row.iter().map(|figure| format!(" {} |", cell(figure))).collect();
+        let cells: String = row.iter().map(|figure| format!(" {}{} |", cell(figure), figure.star())).collect();
         let missing = " |".repeat(5 - row.len());
         println!("| {} |{cells}{missing}{}", row[0].row, last(row.last().expect("a figure")));
     }
@@ -89,50 +115,40 @@ fn print_table(figures: &[Figure], more: &str, cell: impl Fn(&Figure) -> String,
 }
 
 /// The figure in which this is the largest.
-fn largest(figures: &[Figure], number: impl Fn(&Figure) -> f64) -> String {
-    let largest = figures.iter().max_by(|a, b| number(a).total_cmp(&number(b))).expect("a figure");
-    format!("{:.2} ({})", number(largest), largest.name())
-}
-
-fn print_largest(figures: &[Figure], what: &str) {
-    println!("The largest ratio of {what}: {}.", largest(figures, |figure| figure.ours(BY_CODE)));
-    for rust in BY_CODE.iter().chain(KNOWN) {
-        println!("- against {rust}: {}", largest(figures, |figure| figure.ratio(OURS, rust)));
-    }
+fn largest(figures: &[Figure], of: impl Fn(&Figure) -> f64) -> String {
+    let largest = figures.iter().max_by(|a, b| of(a).total_cmp(&of(b))).expect("a figure");
+    format!("{:.2} ({})", of(largest), largest.name())
 }
 
 fn print_times(figures: &[Figure]) {
-    println!("Time of ours as a part of the Rust's: the median of {} layouts, with the lowest and the highest. Of the", figures[0].sides[OURS].len());
-    println!("Rust as a function of the code, called or inlined, at opt-level 2 or 3, the fastest in each figure.");
+    println!("Time of ours as a part of the Rust's, the median of the layouts, with the lowest and the highest; the Rust is a function of the code.");
     let cell = |figure: &Figure| {
-        let ratios = figure.ratios(OURS, figure.fastest(BY_CODE));
-        let (lowest, highest) = range(&ratios);
-        format!("{:.2} ({lowest:.2}..{highest:.2})", median(&ratios))
+        let (lowest, highest) = figure.spread();
+        format!("{:.2} ({lowest:.2}..{highest:.2})", figure.ours(BY_CODE))
     };
     let sample = |figure: &Figure| match figure.length {
         1 => " |".to_string(),
         n => format!(" {:.1} |", median(&figure.sides[OURS]) * 1e9 / n as f64),
     };
     print_table(figures, " Ours, ns a sample of 4,096 |", cell, sample);
-    println!("The same against the Rust that is compiled for one curve.");
+    println!("The same where the Rust is compiled for one curve.");
     print_table(figures, "", |figure| format!("{:.2}", figure.ours(KNOWN)), |_| String::new());
 }
 
 fn print_counts(figures: &[Figure]) {
-    println!("Instructions of a call: ours, the Rust's, and the ratio, against the Rust as a function of the code.");
+    println!("Instructions of a call: ours, the Rust's, and the ratio; the Rust is a function of the code.");
     let cell = |figure: &Figure| {
-        let rust = figure.fastest(BY_CODE);
         let digits = if figure.length == 1 { 1 } else { 0 };
-        let [ours, theirs] = [OURS, rust].map(|side| figure.sides[side][0]);
+        let [ours, theirs] = [OURS, figure.fastest(BY_CODE)].map(|side| figure.sides[side][0]);
         format!("{ours:.digits$} {theirs:.digits$} {:.2}", ours / theirs)
     };
     print_table(figures, "", cell, |_| String::new());
-    println!("The ratio against the Rust that is compiled for one curve.");
+    println!("The ratio where the Rust is compiled for one curve.");
     print_table(figures, "", |figure| format!("{:.2}", figure.ours(KNOWN)), |_| String::new());
 }
 
 fn print_rises(figures: &[Figure], what: &str) {
-    println!("The ratio of {what} before and after, and how far it rose.");
+    println!("The ratio of {what} before and after, and how far it rose; the Rust is a function of the code.");
     let cell = |figure: &Figure| {
         let rust = figure.fastest(BY_CODE);
         let [before, after] = [BEFORE, OURS].map(|side| figure.ratio(side, rust));
@@ -149,8 +165,8 @@ fn print_growth(growth: &[Figure]) {
     for figure in growth {
         for (steps, times) in &figure.sides {
             let (n, time) = (figure.length, median(times));
-            let parts = if steps == "0" { n as f64 } else { steps.parse().expect("steps") };
-            println!("| {} | {n} | {steps} | {:.2} | {:.2} |", figure.row, time * 1e6, time * 1e9 / parts);
+            let parts = if steps == "0" { n as f64 } else { number(steps) };
+            println!("| {} | {n} | {steps} | {:.2}{} | {:.2} |", figure.row, time * 1e6, figure.star(), time * 1e9 / parts);
         }
     }
     println!();
@@ -164,8 +180,8 @@ fn counts(text: &str) -> Vec<Figure> {
         if let Some(text) = line.strip_prefix("desc: Trigger: Client Request: ") {
             name = Some(text.split('\t').collect::<Vec<_>>());
         } else if let (Some(total), Some([row, length, side, calls])) = (line.strip_prefix("totals: "), name.as_deref()) {
-            let [total, calls] = [total, calls].map(|number| number.parse::<f64>().expect("a number"));
-            add(&mut figures, row, length, side, total / calls);
+            let count = number(total) / number(calls);
+            figure(&mut figures, row, length).sides.insert(side.to_string(), vec![count]);
             name = None;
         }
     }
@@ -178,6 +194,7 @@ fn counts(text: &str) -> Vec<Figure> {
 
 pub fn print(files: &[String]) {
     let (mut times, mut growth, mut instructions) = (Vec::new(), Vec::new(), Vec::new());
+    let mut least = f64::INFINITY;
     for file in files {
         let text = std::fs::read_to_string(file).expect(file);
         if text.starts_with("# callgrind") {
@@ -185,14 +202,16 @@ pub fn print(files: &[String]) {
             continue;
         }
         for line in text.lines() {
-            let words: Vec<&str> = line.split('\t').collect();
-            let number = words[4].parse().expect("a number");
-            let to = if words[0] == "time" { &mut times } else { &mut growth };
-            add(to, words[1], words[2], words[3], number);
+            let [what, row, length, side, time, gauge] = line.split('\t').collect::<Vec<_>>()[..] else {
+                panic!("a line of {file} is not a figure: {line}")
+            };
+            let figure = figure(if what == "time" { &mut times } else { &mut growth }, row, length);
+            figure.sides.entry(side.to_string()).or_default().push(number(time));
+            figure.gauges.entry(side.to_string()).or_default().push(number(gauge));
+            least = least.min(number(gauge));
         }
     }
-    let measured = [(&times, "times"), (&instructions, "instructions")];
-    let measured: Vec<_> = measured.iter().filter(|(figures, _)| !figures.is_empty()).collect();
+    times.iter_mut().chain(&mut growth).for_each(|figure| figure.keep_quiet(least));
     if !times.is_empty() {
         print_times(&times);
         print_growth(&growth);
@@ -200,19 +219,26 @@ pub fn print(files: &[String]) {
     if !instructions.is_empty() {
         print_counts(&instructions);
     }
-    let before = cfg!(before);
-    if before {
+    let mut measured = vec![(&times, "times"), (&instructions, "instructions")];
+    measured.retain(|(figures, _)| !figures.is_empty());
+    if cfg!(before) {
         measured.iter().for_each(|(figures, what)| print_rises(figures, what));
     }
     if !times.is_empty() {
-        let spread = |figure: &Figure| {
-            let (lowest, highest) = range(&figure.ratios(OURS, figure.fastest(BY_CODE)));
-            highest - lowest
-        };
+        let spread = |figure: &Figure| figure.spread().1 - figure.spread().0;
         println!("The largest spread over the layouts: {}.", largest(&times, spread));
+        let occupied = times.iter().filter(|figure| figure.occupied).count();
+        if occupied > 0 {
+            println!("{occupied} of {} figures, marked *, were never measured on a quiet core, and say little.", times.len());
+        }
     }
-    measured.iter().for_each(|(figures, what)| print_largest(figures, what));
-    if before {
+    for (figures, what) in &measured {
+        println!("The largest ratio of {what}: {}.", largest(figures, |figure| figure.ours(BY_CODE)));
+        for rust in BY_CODE.iter().chain(KNOWN) {
+            println!("- against {rust}: {}", largest(figures, |figure| figure.ratio(OURS, rust)));
+        }
+    }
+    if cfg!(before) {
         for (figures, what) in measured {
             println!("The largest rise of a ratio of {what}: {}.", largest(figures, Figure::rise));
         }

@@ -15,11 +15,11 @@ use Rattle.generator.specs.declared.Shape.the-variants.{Envelope as AnEnvelope,
 use Rattle.abi.specs.declared.Numbers.{Numbers}
 
 -- A bool is 1 or 0.
-unfoldable pub flagOf : Bool → Float
+abbrev pub flagOf : Bool → Float
 flagOf b = cond b one₃₂ zero₃₂
 
 -- A shape is the byte that names it, 0 to 6.
-unfoldable pub shapeNumber : LfoShape → Float
+abbrev pub shapeNumber : LfoShape → Float
 shapeNumber Sine = zero₃₂
 shapeNumber Triangle = one₃₂
 shapeNumber Square = bits 0x4000_0000
@@ -29,7 +29,7 @@ shapeNumber SampleAndHold = bits 0x40a0_0000
 shapeNumber SampleAndGlide = bits 0x40c0_0000
 
 -- A pass is 0 for low and 1 for high.
-unfoldable pub passNumber : Pass → Float
+abbrev pub passNumber : Pass → Float
 passNumber Low = zero₃₂
 passNumber High = one₃₂
 

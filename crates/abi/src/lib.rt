@@ -2,19 +2,15 @@
 ghost use mathlib.Core.Path.{_≡_};
 ghost use mathlib.Core.List.{[], _∷_};
 ghost use Prim.Native.Nat.{_≤_};
-ghost use Rattle.generator.specs.Generator.{scaleNumber, scaleValue};
-ghost use Rattle.generator.specs.Marks.{segmentNumber, kindNumber};
 ghost use Rattle.lists.specs.Written.{written};
 ghost use Rattle.abi.specs.Arrays.{markPosition, markKind, gateStart, gateEnd, settingAt, marksUsed, gatesUsed, settingsUsed};
 ghost use Rattle.abi.specs.Numbers.{flagOf, shapeNumber, passNumber, storedSettings, settingsNumbers};
 use generator::GATES_DRAWN;
 use generator::Gates;
 use generator::MAX_MARKS;
-use generator::MarkKind;
 use generator::Marks;
-use generator::Scale;
-use generator::Segment;
 use generator::Shape;
+use generator::kind_number;
 use lists::at_most;
 use settings::Envelope;
 use settings::Filter;
@@ -30,52 +26,6 @@ pub const MAX_SETTINGS: usize = 8;
 pub struct Numbers {
     pub places: [f32; MAX_SETTINGS],
     pub count: usize,
-}
-
-// ---- marks and scales
-pub fn segment_number(segment: Segment) -> u8
-    ensures { λ r. ⌜ r ≡ segmentNumber segment ⌝ }
-{
-    match segment {
-        Segment::Attack => 0,
-        Segment::Decay => 1,
-        Segment::Sustain => 2,
-        Segment::Release => 3,
-    }
-}
-
-pub fn kind_number(kind: MarkKind) -> u8
-    ensures { λ r. ⌜ r ≡ kindNumber kind ⌝ }
-{
-    match kind {
-        MarkKind::Segment(s) => segment_number(s),
-        MarkKind::Corner => 4,
-        MarkKind::Cycle => 5,
-        MarkKind::Tap => 6,
-        MarkKind::Width => 7,
-        MarkKind::Sweep => 8,
-    }
-}
-
-pub fn scale_number(scale: Scale) -> u32
-    ensures { λ r. ⌜ r ≡ scaleNumber scale ⌝ }
-{
-    match scale {
-        Scale::Normalised => 0,
-        Scale::Turns(_) => 1,
-        Scale::Octaves(_) => 2,
-    }
-}
-
-// The number that a scale carries, or 0.
-pub fn scale_value(scale: Scale) -> f32
-    ensures { λ r. ⌜ r ≡ scaleValue scale ⌝ }
-{
-    match scale {
-        Scale::Normalised => 0.0,
-        Scale::Turns(turns) => turns,
-        Scale::Octaves(octaves) => octaves,
-    }
 }
 
 // ---- settings

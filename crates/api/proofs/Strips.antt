@@ -5,7 +5,6 @@ use Prim.Native.Nat.{ℕ, _<_}
 use lib.Dec.{T}
 use lib.ListN.{length, getD}
 use lib.Ieee.{Float, nan}
-use borrow.Author.Tests.{eq-eqb}
 use Rattle.generator.specs.Generator.{generatorOf}
 use Rattle.generator.specs.Heights.{heightOf}
 use Rattle.strip.specs.Strip.{samplePosition, lengthFits, stripOf}
@@ -18,7 +17,8 @@ use Rattle.block.specs.declared.StripAnswer.{StripAnswer}
 use Rattle.codes.specs.Codes.{codeOf}
 use Rattle.codes.specs.Bytes.{byteAt, blockLength}
 use Rattle.block.specs.Shapes.{shapeOf}
-use Rattle.block.specs.Refusals.{chosenBy, chosenOf, stripAnswer, stripAfter}
+use Rattle.block.specs.Refusals.{chosenOf, stripAnswer, stripAfter}
+use Rattle.block.proofs.KnownCode.{known-chosen}
 use Rattle.block.proofs.EveryCode.{block-height}
 use Rattle.api.specs.Promises.{Sampled, StripAnswered}
 
@@ -31,8 +31,8 @@ after-length (Refused r) xs = refl
 -- ---- each sample
 -- a block of 242 bytes and a known code fill the strip with the heights of the code's shape
 accepted : (block : List ℕ) (code : ℕ) (xs : List Float) (c : Code) → codeOf code ≡ Known c → length block ≡ blockLength → stripAfter (chosenOf block code) xs ≡ stripOf (shapeOf c (byteAt block)) xs
-unfolding stripAfter chosenOf chosenBy generatorOf
-accepted block code xs c k l = simp (eq-eqb (length block) blockLength l, k)
+unfolding stripAfter generatorOf
+accepted block code xs c k l = simp (known-chosen block code c k l)
 
 pub strip-answered : (block : List ℕ) (code : ℕ) (before after : List Float) (r : StripAnswer) → ((n : ℕ) → byteAt block n < 256)
     → r ≡ stripAnswer (chosenOf block code) (length before) → after ≡ stripAfter (chosenOf block code) before → StripAnswered block code before after r

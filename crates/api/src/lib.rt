@@ -12,6 +12,7 @@ use block::HeightAnswer;
 use block::StripAnswer;
 use block::choose;
 use captions::Captioned;
+use codes::GATE_TIME;
 use curve::Height;
 use generator::Gates;
 use generator::Marks;
@@ -58,11 +59,8 @@ pub struct GatesAnswer {
     pub gates: Gates,
 }
 
-// The byte that the gates read.
-const GATES_BYTE: usize = 160;
-
 // ---- of a block and a code
-pub fn settings(block: &[u8], code: u8) -> SettingsAnswer
+pub fn settings(block: &[u8], code: u32) -> SettingsAnswer
     ensures { λ r. ⌜ r ≡ settingsAnswer (chosenOf (now (block .entry)) code) ⌝ }
 {
     let chosen = choose(block, code);
@@ -75,13 +73,13 @@ pub fn settings(block: &[u8], code: u8) -> SettingsAnswer
     }
 }
 
-pub fn height(block: &[u8], code: u8, t: f32) -> HeightAnswer
+pub fn height(block: &[u8], code: u32, t: f32) -> HeightAnswer
     ensures { λ r. ⌜ HeightAnswered (now (block .entry)) code t r ⌝ }
 {
     block::height(block, code, t)
 }
 
-pub fn marks(block: &[u8], code: u8) -> MarksAnswer
+pub fn marks(block: &[u8], code: u32) -> MarksAnswer
     ensures { λ r. ⌜ r ≡ marksAnswer (chosenOf (now (block .entry)) code) ⌝ }
 {
     let chosen = choose(block, code);
@@ -97,7 +95,7 @@ pub fn marks(block: &[u8], code: u8) -> MarksAnswer
     }
 }
 
-pub fn rest(block: &[u8], code: u8) -> RestAnswer
+pub fn rest(block: &[u8], code: u32) -> RestAnswer
     ensures { λ r. ⌜ r ≡ restAnswer (chosenOf (now (block .entry)) code) ⌝ }
 {
     let chosen = choose(block, code);
@@ -107,7 +105,7 @@ pub fn rest(block: &[u8], code: u8) -> RestAnswer
     }
 }
 
-pub fn scale(block: &[u8], code: u8) -> ScaleAnswer
+pub fn scale(block: &[u8], code: u32) -> ScaleAnswer
     ensures { λ r. ⌜ r ≡ scaleAnswer (chosenOf (now (block .entry)) code) ⌝ }
 {
     let chosen = choose(block, code);
@@ -117,7 +115,7 @@ pub fn scale(block: &[u8], code: u8) -> ScaleAnswer
     }
 }
 
-pub fn anchored(block: &[u8], code: u8) -> AnchoredAnswer
+pub fn anchored(block: &[u8], code: u32) -> AnchoredAnswer
     ensures { λ r. ⌜ r ≡ anchoredAnswer (chosenOf (now (block .entry)) code) ⌝ }
 {
     let chosen = choose(block, code);
@@ -128,14 +126,14 @@ pub fn anchored(block: &[u8], code: u8) -> AnchoredAnswer
 }
 
 // Fills the strip with heights, from the left edge to the right. What is refused leaves it as it was.
-pub fn strip(block: &[u8], code: u8, out: &mut [f32]) -> StripAnswer
+pub fn strip(block: &[u8], code: u32, out: &mut [f32]) -> StripAnswer
     ensures { λ r. ⌜ StripAnswered (now (block .entry)) code (now (out .entry)) (now (out .exit)) r ⌝ }
 {
     block::strip(block, code, out)
 }
 
 // Fills the slice with the caption of each sample. What is refused leaves it as it was.
-pub fn captions(block: &[u8], code: u8, out: &mut [u8]) -> Answer
+pub fn captions(block: &[u8], code: u32, out: &mut [u8]) -> Answer
     ensures { λ r. ⌜ (r ≡ captionsAnswer (chosenOf (now (block .entry)) code) (length (now (out .entry)))) × (now (out .exit) ≡ captionsAfter (chosenOf (now (block .entry)) code) (now (out .entry))) ⌝ }
 {
     let chosen = choose(block, code);
@@ -163,7 +161,7 @@ pub fn gates(block: &[u8]) -> GatesAnswer
     }
     GatesAnswer {
         answer: Answer::Accepted,
-        gates: arpeggiator_gates(block[GATES_BYTE]),
+        gates: arpeggiator_gates(block[GATE_TIME]),
     }
 }
 

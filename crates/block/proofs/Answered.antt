@@ -5,7 +5,6 @@ use Prim.Native.Nat.{ℕ, _<_}
 use lib.Dec.{T}
 use lib.ListN.{length}
 use lib.Ieee.{Float, binary32, fits}
-use borrow.Author.Tests.{eq-eqb}
 use Rattle.generator.specs.Generator.{generatorOf}
 use Rattle.generator.specs.Heights.{heightOf}
 use Rattle.codes.specs.declared.Code.{Code}
@@ -15,15 +14,16 @@ use Rattle.block.specs.declared.HeightAnswer.the-variants.{Height as AHe
 use Rattle.codes.specs.Codes.{codeOf}
 use Rattle.codes.specs.Bytes.{byteAt, blockLength}
 use Rattle.block.specs.Shapes.{shapeOf}
-use Rattle.block.specs.Refusals.{settledBy, settledOf, chosenBy, chosenOf, heightAnswer}
+use Rattle.block.specs.Refusals.{chosenOf, heightAnswer}
 use Rattle.block.specs.Promises.{HeightAnswered}
+use Rattle.block.proofs.KnownCode.{known-chosen}
 use Rattle.block.proofs.EveryCode.{block-height}
 
 -- a block of 242 bytes and a known code are given a height
 accepted : (block : List ℕ) (code : ℕ) (t : Float) (c : Code) → codeOf code ≡ Known c → length block ≡ blockLength
     → heightAnswer (chosenOf block code) t ≡ AHeight (heightOf (shapeOf c (byteAt block)) t)
-unfolding heightAnswer chosenOf chosenBy settledOf settledBy generatorOf
-accepted block code t c k l = simp (eq-eqb (length block) blockLength l, k)
+unfolding heightAnswer generatorOf
+accepted block code t c k l = simp (known-chosen block code c k l)
 
 pub height-answered : (block : List ℕ) (code : ℕ) (t : Float) (r : HeightAnswer) → ((n : ℕ) → byteAt block n < 256) → T (fits binary32 t) → r ≡ heightAnswer (chosenOf block code) t
     → HeightAnswered block code t r

@@ -7,13 +7,16 @@ use native.Mathlib.Omega.{arith}
 use lib.Dec.{T, eqb, eqb→eq}
 use lib.ListN.{length}
 use borrow.Author.Tests.{eq-eqb}
+use Rattle.generator.specs.Generator.{generatorOf}
 use Rattle.refusals.specs.declared.Refusal.the-variants.{Block}
 use Rattle.codes.specs.declared.Code.{Code}
 use Rattle.codes.specs.declared.CodeRead.the-variants.{Known}
 use Rattle.codes.specs.Codes.{codeOf}
-use Rattle.codes.specs.Bytes.{blockLength}
+use Rattle.codes.specs.Bytes.{blockLength, byteAt}
 use Rattle.block.specs.declared.Settled.the-variants.{Known as KnownCode, Refused as NoCode}
-use Rattle.block.specs.Refusals.{settledBy, settledOf}
+use Rattle.block.specs.declared.Chosen.the-variants.{Generator as AGenerator}
+use Rattle.block.specs.Shapes.{shapeOf}
+use Rattle.block.specs.Refusals.{settledBy, settledOf, chosenBy, chosenOf}
 
 pub known-settled : (block : List ℕ) (code : ℕ) (c : Code) → codeOf code ≡ Known c → length block ≡ blockLength → settledOf block code ≡ KnownCode c
 unfolding settledOf settledBy
@@ -26,3 +29,7 @@ settled-length block code c e = go (eqb (length block) blockLength) (eqb→eq (l
     go : (b : Bool) → (T b → length block ≡ blockLength) → KnownCode c ≡ cond b (settledBy (codeOf code)) (NoCode Block) → length block ≡ blockLength
     go true f e = f tt
     go false f e = let z : _≡_ {A = ℕ} 0 1 = cc in absurd (omega arith)
+
+pub known-chosen : (block : List ℕ) (code : ℕ) (c : Code) → codeOf code ≡ Known c → length block ≡ blockLength → chosenOf block code ≡ AGenerator (generatorOf (shapeOf c (byteAt block)))
+unfolding chosenOf chosenBy
+known-chosen block code c k l = simp (known-settled block code c k l)

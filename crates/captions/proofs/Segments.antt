@@ -14,7 +14,7 @@ use Rattle.strip.specs.Strip.{partOf, samplePosition}
 use Rattle.captions.specs.Captions.{startedBy, segmentFrom, lastSegment, captionOf}
 
 pub by-ends : (e : Envelope) (p : Float) → lastSegment (envelopeMarks e) p ≡ cond (le (e .third) p) 3 (cond (le (e .second) p) 2 (cond (le (e .first) p) 1 0))
-unfolding lastSegment segmentFrom envelopeMarks startedBy segmentNumber
+unfolding lastSegment segmentFrom envelopeMarks startedBy
 by-ends e p = ap (λ (k : ℕ). cond (le (e .third) p) 3 (cond (le (e .second) p) 2 (cond (le (e .first) p) 1 k))) (either (le zero₃₂ p))
   where
     either : (b : Bool) → _≡_ {A = ℕ} (cond b 0 0) 0
@@ -23,7 +23,7 @@ by-ends e p = ap (λ (k : ℕ). cond (le (e .third) p) 3 (cond (le (e .second) p
 
 module _ (ms : List Mark) (i last : ℕ) where
   pub caption-first : i ≡ 0 → 0 ≡ captionOf ms (last + 1) i
-  unfolding captionOf segmentNumber
+  unfolding captionOf
   caption-first h = simp (eq-eqb i 0 h)
 
   pub caption-later : (p : Float) {r : ℕ} → (i ≡ 0 → ⊥) → p ≡ partOf i last → r ≡ lastSegment ms p → r ≡ captionOf ms (last + 1) i

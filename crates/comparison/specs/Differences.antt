@@ -9,7 +9,7 @@ use Rattle.text.specs.Spelled.{decimalOf}
 use Rattle.codes.specs.declared.Code.{Code}
 use Rattle.codes.specs.declared.CodeRead.{CodeRead}
 use Rattle.codes.specs.declared.CodeRead.the-variants.{Known, Above}
-use Rattle.codes.specs.Codes.{codeOf}
+use Rattle.codes.specs.Codes.{codeNumber, codeOf}
 use Rattle.codes.specs.Bytes.{bytesOf, byteAt, gatesByte, blockLength}
 use Rattle.block.specs.Shapes.{shapeOf}
 use Rattle.rows.specs.Rows.{ninePlaces}
@@ -26,7 +26,7 @@ largestText l = ascii "different  largest difference " ++ ninePlaces (l .size) +
 -- Its name, and whether all bytes that it reads are the same; if not, how far apart the curves are, and a line for each byte that differs.
 unfoldable pub generatorText : Code → (ℕ → ℕ) → (ℕ → ℕ) → List ℕ
 generatorText c a b =
-    titleOf c ++ cond (sameBytes (bytesOf c) a b) (ascii "same\n") (largestText (largestOf (shapeOf c a) (shapeOf c b) comparedSamples) ++ changesText (bytesOf c) a b)
+    titleOf (codeNumber c) ++ cond (sameBytes (bytesOf c) a b) (ascii "same\n") (largestText (largestOf (shapeOf c a) (shapeOf c b) comparedSamples) ++ changesText (bytesOf c) a b)
 
 unfoldable pub codeText : CodeRead → (ℕ → ℕ) → (ℕ → ℕ) → List ℕ
 codeText (Known c) a b = generatorText c a b
@@ -39,7 +39,7 @@ codesText (suc k) a b = codesText k a b ++ codeText (codeOf k) a b
 
 -- ---- the gates, which have no height
 unfoldable pub gateText : (ℕ → ℕ) → (ℕ → ℕ) → List ℕ
-gateText a b = ascii "Arpeggio gate    " ++ cond (sameBytes (gatesByte ∷ []) a b) (ascii "same\n") (ascii "different\n" ++ changesText (gatesByte ∷ []) a b)
+gateText a b = titleOf 14 ++ cond (sameBytes (gatesByte ∷ []) a b) (ascii "same\n") (ascii "different\n" ++ changesText (gatesByte ∷ []) a b)
 
 -- ---- how many differ: 1 for each that does
 unfoldable pub codeCount : CodeRead → (ℕ → ℕ) → (ℕ → ℕ) → ℕ

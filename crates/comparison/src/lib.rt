@@ -1,26 +1,32 @@
 // What differs between two programs: a line for each generator and for the arpeggio's gates, with a line for each of their bytes that is not the same.
+mod bytes;
+
 ghost use mathlib.Core.Path.{_≡_};
 ghost use Prim.Native.Nat.{_≤_};
 ghost use lib.ListN.{length};
 ghost use Rattle.text.specs.Text.{Puts};
-ghost use Rattle.generator.specs.Generator.{generatorOf};
-ghost use Rattle.block.specs.declared.Chosen.the-variants.{Generator as AGenerator};
 ghost use Rattle.codes.specs.Codes.{codeOf};
 ghost use Rattle.codes.specs.Bytes.{byteAt, blockLength};
-ghost use Rattle.block.specs.Shapes.{shapeOf};
 ghost use Rattle.comparison.specs.Largest.{differenceAt, largerOf, largestOf};
 ghost use Rattle.comparison.specs.Differences.{largestText, generatorText, codeText, codesText, gateText, codeCount, codesCount, gateCount, differencesText};
 use crate::bytes::put_changes;
+use crate::bytes::put_changes;
+use crate::bytes::put_code_changes;
 use crate::bytes::put_code_changes;
 use crate::bytes::same;
+use crate::bytes::same;
+use crate::bytes::same_bytes;
 use crate::bytes::same_bytes;
 use block::BLOCK;
-use block::Chosen;
-use block::choose;
+use block::shape_at;
+use codes::CODES;
 use codes::Code;
 use codes::CodeRead;
+use codes::GATE_TIME;
 use codes::code_from;
+use codes::code_number;
 use generator::Generator;
+use generator::of_shape;
 use labels::put_title;
 use math::abs;
 use rows::put_nine_places;
@@ -30,9 +36,6 @@ use text::put_decimal;
 
 // The number of the last sample at which two curves are held against each other.
 const LAST: u16 = 1024;
-
-// How many codes there are.
-const CODES: u8 = 14;
 
 // How far two curves are apart where they are farthest, and the number of the first such sample.
 pub struct Largest {
@@ -86,59 +89,28 @@ fn put_largest(out: &mut [u8], at: usize, largest: Largest) -> usize
     put(out, next, b"\n")
 }
 
-fn put_known(
-    out: &mut [u8],
-    at: usize,
-    old: &[u8],
-    new: &[u8],
-    code: Code,
-    g: Generator,
-    h: Generator,
-) -> usize
-    requires { ⌜ (g ≡ generatorOf (shapeOf code (byteAt (now old)))) × (h ≡ generatorOf (shapeOf code (byteAt (now new)))) ⌝ }
+fn put_code(out: &mut [u8], at: usize, old: &[u8], new: &[u8], code: Code) -> usize
+    requires { ⌜ (length (now old) ≡ blockLength) × (length (now new) ≡ blockLength) ⌝ }
     ensures { λ r. ⌜ Puts (now (out .entry)) at (generatorText code (byteAt (now (old .entry))) (byteAt (now (new .entry)))) (now (out .exit)) r ⌝ }
 {
-    let titled = put_title(out, at, code);
+    let titled = put_title(out, at, code_number(code));
     if same(old, new, code) {
         return put(out, titled, b"same\n");
     }
+    let g = of_shape(shape_at(old, code));
+    let h = of_shape(shape_at(new, code));
     let next = put_largest(out, titled, find_largest(g, h));
     put_code_changes(out, next, old, new, code)
 }
 
-fn put_chosen(
-    out: &mut [u8],
-    at: usize,
-    old: &[u8],
-    new: &[u8],
-    code: Code,
-    first: Chosen,
-    second: Chosen,
-) -> usize
-    requires { ⌜ (first ≡ AGenerator (generatorOf (shapeOf code (byteAt (now old))))) × (second ≡ AGenerator (generatorOf (shapeOf code (byteAt (now new))))) ⌝ }
-    ensures { λ r. ⌜ Puts (now (out .entry)) at (generatorText code (byteAt (now (old .entry))) (byteAt (now (new .entry)))) (now (out .exit)) r ⌝ }
-{
-    match first {
-        Chosen::Generator(g) => match second {
-            Chosen::Generator(h) => put_known(out, at, old, new, code, g, h),
-            Chosen::Refused(_) => at,
-        },
-        Chosen::Refused(_) => at,
-    }
-}
-
 // The lines of the generator of a code's number.
-fn put_code(out: &mut [u8], at: usize, old: &[u8], new: &[u8], number: u8) -> usize
+fn put_numbered(out: &mut [u8], at: usize, old: &[u8], new: &[u8], number: u8) -> usize
     requires { ⌜ (length (now old) ≡ blockLength) × (length (now new) ≡ blockLength) ⌝ }
     ensures { λ r. ⌜ Puts (now (out .entry)) at (codeText (codeOf number) (byteAt (now (old .entry))) (byteAt (now (new .entry)))) (now (out .exit)) r ⌝ }
 {
     let read = code_from(number);
     match read {
-        CodeRead::Known(code) => {
-            let first = choose(old, number);
-            let second = choose(new, number);
-            put_chosen(out, at, old, new, code, first, second)
-        }
+        CodeRead::Known(code) => put_code(out, at, old, new, code),
         CodeRead::Above => at,
     }
 }
@@ -150,7 +122,7 @@ fn put_codes(out: &mut [u8], at: usize, old: &[u8], new: &[u8]) -> usize
     let mut next = at;
     let mut number: u8 = 0;
     while number < CODES {
-        next = put_code(out, next, old, new, number);
+        next = put_numbered(out, next, old, new, number);
         number += 1;
     }
     next
@@ -160,12 +132,12 @@ fn put_codes(out: &mut [u8], at: usize, old: &[u8], new: &[u8]) -> usize
 fn put_gate(out: &mut [u8], at: usize, old: &[u8], new: &[u8]) -> usize
     ensures { λ r. ⌜ Puts (now (out .entry)) at (gateText (byteAt (now (old .entry))) (byteAt (now (new .entry)))) (now (out .exit)) r ⌝ }
 {
-    let titled = put(out, at, b"Arpeggio gate    ");
-    if same_bytes(old, new, &[160]) {
+    let titled = put_title(out, at, 14);
+    if same_bytes(old, new, &[GATE_TIME as u8]) {
         return put(out, titled, b"same\n");
     }
     let next = put(out, titled, b"different\n");
-    put_changes(out, next, old, new, &[160])
+    put_changes(out, next, old, new, &[GATE_TIME as u8])
 }
 
 // ---- how many differ
@@ -199,7 +171,7 @@ fn count_codes(old: &[u8], new: &[u8]) -> u64
 fn count_gate(old: &[u8], new: &[u8]) -> u64
     ensures { λ r. ⌜ (r ≡ gateCount (byteAt (now (old .entry))) (byteAt (now (new .entry)))) × (r ≤ 1) ⌝ }
 {
-    if same_bytes(old, new, &[160]) {
+    if same_bytes(old, new, &[GATE_TIME as u8]) {
         return 0;
     }
     1

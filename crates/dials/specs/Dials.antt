@@ -1,12 +1,9 @@
 -- THE LINES THAT SAY WHAT TO DIAL IN: docs/SPECIFICATION.md, "The page". A line has a dial's name, its byte in decimal, and a note. Definitions only.
-use mathlib.Core.Bool.{cond}
-use mathlib.Core.List.{List, [], _++_}
+use mathlib.Core.List.{List, _++_}
 use Prim.Native.Nat.{ℕ, _+_}
-use lib.Dec.{eqb}
-use lib.ListN.{length}
 use Rattle.text.specs.Text.{ascii}
 use Rattle.text.specs.Spelled.{decimalOf}
-use Rattle.codes.specs.Bytes.{fadeByte, lfoFirst, envelopeFirst, byteAt, blockLength}
+use Rattle.codes.specs.Bytes.{sourceByte, pulseByte, sawByte, depthByte, oscillatorTwoByte, noiseByte, resonanceByte, poleByte, envelopeFirst, lfoFirst, fadeByte}
 use Rattle.codes.specs.declared.Code.{Code}
 use Rattle.codes.specs.declared.Code.the-variants.{Envelope, Lfo, LfoUnipolar, Fade, LowPass, HighPass, Oscillator, Noise}
 use Rattle.codes.specs.declared.OscillatorId.the-variants.{One, Two}
@@ -72,7 +69,7 @@ lfoDials b n =
     dialText lineThree (ascii "Key sync") (b (n + 1)) (switchNote (b (n + 1)))
 
 unfoldable pub lowPassDials : (ℕ → ℕ) → List ℕ
-lowPassDials b = plainDial lineOne (ascii "Resonance") (b 41) ++ polesDial (b 51)
+lowPassDials b = plainDial lineOne (ascii "Resonance") (b resonanceByte) ++ polesDial (b poleByte)
 
 -- The high-pass is always the same.
 abbrev pub highPassDials : List ℕ
@@ -80,8 +77,8 @@ highPassDials = ascii "<text class='d' y='1300'>6 dB an octave, fixed</text>"
 
 unfoldable pub oscillatorDials : (ℕ → ℕ) → List ℕ
 oscillatorDials b =
-    dialText lineOne (ascii "Saw") (b 19) (switchNote (b 19)) ++ dialText lineTwo (ascii "Pulse") (b 18) (switchNote (b 18)) ++
-    sourceDial (b 16) ++ depthDial (b 25) (b 16)
+    dialText lineOne (ascii "Saw") (b sawByte) (switchNote (b sawByte)) ++ dialText lineTwo (ascii "Pulse") (b pulseByte) (switchNote (b pulseByte)) ++
+    sourceDial (b sourceByte) ++ depthDial (b depthByte) (b sourceByte)
 
 -- The only dial of a generator.
 abbrev pub onlyDial : List ℕ → ℕ → List ℕ
@@ -95,9 +92,5 @@ dialsOf (Fade id) b = onlyDial (ascii "Fade time") (b (fadeByte id))
 dialsOf LowPass b = lowPassDials b
 dialsOf HighPass b = highPassDials
 dialsOf (Oscillator One) b = oscillatorDials b
-dialsOf (Oscillator Two) b = onlyDial (ascii "Level") (b 26)
-dialsOf Noise b = onlyDial (ascii "Level") (b 33)
-
--- The lines of a code for a whole block; a block of another length has none.
-unfoldable pub dialsText : List ℕ → Code → List ℕ
-dialsText block c = cond (eqb (length block) blockLength) (dialsOf c (byteAt block)) []
+dialsOf (Oscillator Two) b = onlyDial (ascii "Level") (b oscillatorTwoByte)
+dialsOf Noise b = onlyDial (ascii "Level") (b noiseByte)

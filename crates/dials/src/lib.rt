@@ -5,10 +5,17 @@ ghost use lib.ListN.{length};
 ghost use Rattle.text.specs.Text.{Puts};
 ghost use Rattle.codes.specs.Bytes.{byteAt, blockLength};
 ghost use Rattle.labels.specs.Notes.{switchNote};
-ghost use Rattle.dials.specs.Dials.{dialStart, dialEnd, dialText, plainDial, onlyDial, curvedDial, shapeDial, polesDial, sourceDial, depthDial, envelopeDials, lfoDials, lowPassDials, oscillatorDials, dialsOf, dialsText};
-use block::BLOCK;
+ghost use Rattle.dials.specs.Dials.{dialStart, dialEnd, dialText, plainDial, onlyDial, curvedDial, shapeDial, polesDial, sourceDial, depthDial, envelopeDials, lfoDials, lowPassDials, oscillatorDials, dialsOf};
 use codes::Code;
+use codes::DEPTH;
+use codes::NOISE_LEVEL;
+use codes::OSCILLATOR_TWO_LEVEL;
 use codes::OscillatorId;
+use codes::POLE;
+use codes::PULSE;
+use codes::RESONANCE;
+use codes::SAW;
+use codes::SOURCE;
 use codes::envelope_first;
 use codes::fade_byte;
 use codes::lfo_first;
@@ -143,21 +150,22 @@ fn low_pass_dials(out: &mut [u8], at: usize, block: &[u8]) -> usize
     requires { ⌜ length (now block) ≡ blockLength ⌝ }
     ensures { λ r. ⌜ Puts (now (out .entry)) at (lowPassDials (byteAt (now (block .entry)))) (now (out .exit)) r ⌝ }
 {
-    let next = plain(out, at, 1300, b"Resonance", block[41]);
-    poles(out, next, block[51])
+    let next = plain(out, at, 1300, b"Resonance", block[RESONANCE]);
+    poles(out, next, block[POLE])
 }
 
 fn oscillator_dials(out: &mut [u8], at: usize, block: &[u8]) -> usize
     requires { ⌜ length (now block) ≡ blockLength ⌝ }
     ensures { λ r. ⌜ Puts (now (out .entry)) at (oscillatorDials (byteAt (now (block .entry)))) (now (out .exit)) r ⌝ }
 {
-    let mut next = switch(out, at, 1300, b"Saw", block[19]);
-    next = switch(out, next, 1620, b"Pulse", block[18]);
-    next = source(out, next, block[16]);
-    depth(out, next, block[25], block[16])
+    let mut next = switch(out, at, 1300, b"Saw", block[SAW]);
+    next = switch(out, next, 1620, b"Pulse", block[PULSE]);
+    next = source(out, next, block[SOURCE]);
+    depth(out, next, block[DEPTH], block[SOURCE])
 }
 
-fn dials_at(out: &mut [u8], at: usize, block: &[u8], code: Code) -> usize
+// The lines of a code. The caller has tested the block's length.
+pub fn put_dials(out: &mut [u8], at: usize, block: &[u8], code: Code) -> usize
     requires { ⌜ length (now block) ≡ blockLength ⌝ }
     ensures { λ r. ⌜ Puts (now (out .entry)) at (dialsOf code (byteAt (now (block .entry)))) (now (out .exit)) r ⌝ }
 {
@@ -177,18 +185,8 @@ fn dials_at(out: &mut [u8], at: usize, block: &[u8], code: Code) -> usize
         ),
         Code::Oscillator(id) => match id {
             OscillatorId::One => oscillator_dials(out, at, block),
-            OscillatorId::Two => put_dial(out, at, b"Level", block[26]),
+            OscillatorId::Two => put_dial(out, at, b"Level", block[OSCILLATOR_TWO_LEVEL]),
         },
-        Code::Noise => put_dial(out, at, b"Level", block[33]),
+        Code::Noise => put_dial(out, at, b"Level", block[NOISE_LEVEL]),
     }
-}
-
-// The lines of a code; a block of another length has none.
-pub fn put_dials(out: &mut [u8], at: usize, block: &[u8], code: Code) -> usize
-    ensures { λ r. ⌜ Puts (now (out .entry)) at (dialsText (now (block .entry)) code) (now (out .exit)) r ⌝ }
-{
-    if block.len() != BLOCK {
-        return at;
-    }
-    dials_at(out, at, block, code)
 }

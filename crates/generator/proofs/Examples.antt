@@ -57,7 +57,7 @@ markRows =
     ∷ []
 
 marks-agree : T (allPass hasMarks markRows)
-unfolding allPass hasMarks same storedPairs markPairs markRows kindNumber segmentNumber marksOf markList stored padded countOf envelopeMarks fadeMarks cyclesFrom cyclesOf sweepMarks pulseMarks oscillatorMarks byteOf totalOf firstOf secondOf thirdOf envelopeOf lfoShapeOf turnsOf lfoOf fadeOf lowPassOf highPassOf depthOf widthOf sweepOf oscillatorOneOf oscillatorTwoOf noiseOf toBits ofBits ofInt add sub mul div lt
+unfolding allPass hasMarks same storedPairs markPairs markRows marksOf markList stored padded countOf envelopeMarks fadeMarks cyclesFrom cyclesOf sweepMarks pulseMarks oscillatorMarks byteOf totalOf firstOf secondOf thirdOf envelopeOf lfoShapeOf turnsOf lfoOf fadeOf lowPassOf highPassOf depthOf widthOf sweepOf oscillatorOneOf oscillatorTwoOf noiseOf toBits ofBits ofInt add sub mul div lt
 marks-agree = tt
 
 -- ---- the marks of an LFO of any turns, the row's bits: NaN, infinities, zeros, subnormal, just below 1 and 6, more than are stored, huge, negative
@@ -85,7 +85,7 @@ turnRows =
     ∷ []
 
 turns-agree : T (allPass hasTurnMarks turnRows)
-unfolding allPass hasTurnMarks turnMarks same storedPairs markPairs turnRows kindNumber stored padded countOf cyclesFrom cyclesOf toBits ofBits ofInt div lt
+unfolding allPass hasTurnMarks turnMarks same storedPairs markPairs turnRows stored padded countOf cyclesFrom cyclesOf toBits ofBits ofInt div lt
 turns-agree = tt
 
 -- ---- the bits of the rest, 1 if anchored, the number of the scale, and the bits of what it carries
@@ -111,7 +111,7 @@ sayRows =
     ∷ []
 
 says-agree : T (allPass says sayRows)
-unfolding allPass says same saysOf sayRows restOf anchoredOf scaleOf scaleNumber scaleValue filterUnity lfoShapeOf turnsOf lfoOf lowPassOf highPassOf toBits ofBits mul div
+unfolding allPass says same saysOf sayRows filterUnity lfoShapeOf turnsOf lfoOf lowPassOf highPassOf toBits ofBits mul div
 says-agree = tt
 
 -- ---- gates: the bits of a start and of an end

@@ -2,9 +2,9 @@
 ghost use mathlib.Core.Path.{_≡_};
 ghost use mathlib.Core.Bool.{true, false};
 ghost use Rattle.settings.specs.Settings.{envelopeOf, lfoOf, fadeOf, lowPassOf, highPassOf, oscillatorOneOf, oscillatorTwoOf, noiseOf};
-ghost use Rattle.generator.specs.Generator.{scaleOf, generatorOf, restOf, anchoredOf};
+ghost use Rattle.generator.specs.Generator.{scaleOf, generatorOf, scaleNumber, scaleValue, restOf, anchoredOf};
 ghost use Rattle.generator.specs.Heights.{heightOf};
-ghost use Rattle.generator.specs.Marks.{noMarks, markOf, pushed, pushedAll, stored, cyclesOf, envelopeMarks, fadeMarks, pulseMarks, oscillatorMarks, marksOf};
+ghost use Rattle.generator.specs.Marks.{segmentNumber, kindNumber, noMarks, markOf, pushed, pushedAll, stored, cyclesOf, envelopeMarks, fadeMarks, pulseMarks, oscillatorMarks, marksOf};
 ghost use Rattle.generator.specs.Gates.{gateOf, gatesOf};
 use curve::Height;
 use envelope::envelope_height;
@@ -358,6 +358,52 @@ fn oscillator_marks(o: Oscillator) -> Marks
     ensures { λ r. ⌜ r ≡ stored (oscillatorMarks o) ⌝ }
 {
     cycles(pulse_marks(o), 1.0)
+}
+
+// ---- enums as numbers
+pub fn segment_number(segment: Segment) -> u8
+    ensures { λ r. ⌜ r ≡ segmentNumber segment ⌝ }
+{
+    match segment {
+        Segment::Attack => 0,
+        Segment::Decay => 1,
+        Segment::Sustain => 2,
+        Segment::Release => 3,
+    }
+}
+
+pub fn kind_number(kind: MarkKind) -> u8
+    ensures { λ r. ⌜ r ≡ kindNumber kind ⌝ }
+{
+    match kind {
+        MarkKind::Segment(s) => segment_number(s),
+        MarkKind::Corner => 4,
+        MarkKind::Cycle => 5,
+        MarkKind::Tap => 6,
+        MarkKind::Width => 7,
+        MarkKind::Sweep => 8,
+    }
+}
+
+pub fn scale_number(scale: Scale) -> u32
+    ensures { λ r. ⌜ r ≡ scaleNumber scale ⌝ }
+{
+    match scale {
+        Scale::Normalised => 0,
+        Scale::Turns(_) => 1,
+        Scale::Octaves(_) => 2,
+    }
+}
+
+// The number that a scale carries, or 0.
+pub fn scale_value(scale: Scale) -> f32
+    ensures { λ r. ⌜ r ≡ scaleValue scale ⌝ }
+{
+    match scale {
+        Scale::Normalised => 0.0,
+        Scale::Turns(turns) => turns,
+        Scale::Octaves(octaves) => octaves,
+    }
 }
 
 // ---- gates

@@ -1,4 +1,4 @@
--- WHAT IS PROMISED OF THE C FUNCTIONS: docs/SPECIFICATION.md, "The C interface". The numbers are those of an answer, of which all is promised that crate sheet promises. Definitions only.
+-- WHAT IS PROMISED OF THE C FUNCTIONS: docs/SPECIFICATION.md, "The C interface". The numbers are those of an answer, of which all is promised that crate api promises. Definitions only.
 use mathlib.Core.Path.{_≡_}
 use mathlib.Core.List.{List}
 use Prim.Native.Nat.{ℕ}

@@ -1,4 +1,4 @@
-// The C interface, include/juvrada.h: what crate sheet offers, for callers in another language. A slice is a pointer and a length, an answer a struct of numbers.
+// The C interface, include/juvrada.h: what crate api offers, for callers in another language. A slice is a pointer and a length, an answer a struct of numbers.
 ghost use mathlib.Core.Path.{_≡_};
 ghost use lib.ListN.{length};
 ghost use Rattle.block.specs.Refusals.{chosenOf};
@@ -13,8 +13,6 @@ use abi::copy_mark_positions;
 use abi::copy_settings;
 use abi::gates_used;
 use abi::marks_used;
-use abi::scale_number;
-use abi::scale_value;
 use abi::settings_numbers;
 use abi::settings_used;
 use api::AnchoredAnswer;
@@ -28,6 +26,8 @@ use block::HeightAnswer;
 use block::StripAnswer;
 use generator::GATES_DRAWN;
 use generator::MAX_MARKS;
+use generator::scale_number;
+use generator::scale_value;
 use refusals::refusal_number;
 use taps::MAX_TAPS;
 use taps::Taps;
@@ -163,14 +163,14 @@ fn anchored_result(answer: AnchoredAnswer) -> AnchoredResult
 
 // ---- the functions
 #[no_mangle]
-pub extern "C" fn juvrada_height(block: &[u8], code: u8, t: f32) -> HeightResult
+pub extern "C" fn juvrada_height(block: &[u8], code: u32, t: f32) -> HeightResult
     ensures { λ r. ⌜ HeightReturned (now (block .entry)) code t r ⌝ }
 {
     height_result(api::height(block, code, t))
 }
 
 #[no_mangle]
-pub extern "C" fn juvrada_strip(block: &[u8], code: u8, out: &mut [f32]) -> StripResult
+pub extern "C" fn juvrada_strip(block: &[u8], code: u32, out: &mut [f32]) -> StripResult
     ensures { λ r. ⌜ StripReturned (now (block .entry)) code (now (out .entry)) (now (out .exit)) r ⌝ }
 {
     strip_result(api::strip(block, code, out))
@@ -197,7 +197,7 @@ fn copy_marks(
 #[no_mangle]
 pub extern "C" fn juvrada_marks(
     block: &[u8],
-    code: u8,
+    code: u32,
     at: &mut [f32; MAX_MARKS],
     kind: &mut [u8; MAX_MARKS],
 ) -> CountResult
@@ -207,21 +207,21 @@ pub extern "C" fn juvrada_marks(
 }
 
 #[no_mangle]
-pub extern "C" fn juvrada_rest(block: &[u8], code: u8) -> RestResult
+pub extern "C" fn juvrada_rest(block: &[u8], code: u32) -> RestResult
     ensures { λ r. ⌜ r ≡ restResult (restAnswer (chosenOf (now (block .entry)) code)) ⌝ }
 {
     rest_result(api::rest(block, code))
 }
 
 #[no_mangle]
-pub extern "C" fn juvrada_scale(block: &[u8], code: u8) -> ScaleResult
+pub extern "C" fn juvrada_scale(block: &[u8], code: u32) -> ScaleResult
     ensures { λ r. ⌜ r ≡ scaleResult (scaleAnswer (chosenOf (now (block .entry)) code)) ⌝ }
 {
     scale_result(api::scale(block, code))
 }
 
 #[no_mangle]
-pub extern "C" fn juvrada_anchored(block: &[u8], code: u8) -> AnchoredResult
+pub extern "C" fn juvrada_anchored(block: &[u8], code: u32) -> AnchoredResult
     ensures { λ r. ⌜ r ≡ anchoredResult (anchoredAnswer (chosenOf (now (block .entry)) code)) ⌝ }
 {
     anchored_result(api::anchored(block, code))
@@ -230,7 +230,7 @@ pub extern "C" fn juvrada_anchored(block: &[u8], code: u8) -> AnchoredResult
 #[no_mangle]
 pub extern "C" fn juvrada_settings(
     block: &[u8],
-    code: u8,
+    code: u32,
     out: &mut [f32; MAX_SETTINGS],
 ) -> CountResult
     ensures { λ r. ⌜ (r ≡ settingsResult (settingsAnswer (chosenOf (now (block .entry)) code))) × (now (out .exit) ≡ settingsAfter (settingsAnswer (chosenOf (now (block .entry)) code)) (now (out .entry))) ⌝ }
@@ -253,7 +253,7 @@ pub extern "C" fn juvrada_settings(
 }
 
 #[no_mangle]
-pub extern "C" fn juvrada_captions(block: &[u8], code: u8, out: &mut [u8]) -> u32
+pub extern "C" fn juvrada_captions(block: &[u8], code: u32, out: &mut [u8]) -> u32
     ensures { λ r. ⌜ (r ≡ answerNumber (captionsAnswer (chosenOf (now (block .entry)) code) (length (now (out .entry))))) × (now (out .exit) ≡ captionsAfter (chosenOf (now (block .entry)) code) (now (out .entry))) ⌝ }
 {
     answer_number(api::captions(block, code, out))

@@ -1,16 +1,15 @@
--- THE NAMES OF GENERATORS AND OF THEIR BYTES: docs/SPECIFICATION.md, "What differs". Definitions only.
+-- THE TITLES OF PANELS AND THE NAMES OF BYTES: docs/SPECIFICATION.md, "What differs". Definitions only.
 use mathlib.Core.Bool.{cond}
 use mathlib.Core.List.{List, [], _∷_}
 use Prim.Native.Nat.{ℕ, _-_, _%_}
 use lib.Dec.{ltb}
 use Rattle.text.specs.Text.{ascii}
 use Rattle.text.specs.Words.{wordOf, indexOf}
-use Rattle.codes.specs.declared.Code.{Code}
-use Rattle.codes.specs.Codes.{codeNumber}
+use Rattle.codes.specs.Bytes.{sourceByte, pulseByte, sawByte, depthByte, resonanceByte, poleByte, gatesByte}
 
--- A generator's name by its code's number, with spaces up to column 17.
-unfoldable pub titleOf : Code → List ℕ
-titleOf c = wordOf (ascii "VCA envelope     |VCF envelope     |Mod envelope     |LFO 1            |LFO 2            |LFO 1 unipolar   |LFO 2 unipolar   |LFO 1 fade       |LFO 2 fade       |Low-pass filter  |High-pass filter |Oscillator 1     |Oscillator 2     |Noise            ") (codeNumber c)
+-- The title of panel k, with spaces up to column 17: of the generator whose code's number it is, and last of the arpeggio.
+abbrev pub titleOf : ℕ → List ℕ
+titleOf k = wordOf (ascii "VCA envelope     |VCF envelope     |Mod envelope     |LFO 1            |LFO 2            |LFO 1 unipolar   |LFO 2 unipolar   |LFO 1 fade       |LFO 2 fade       |Low-pass filter  |High-pass filter |Oscillator 1     |Oscillator 2     |Noise            |Arpeggio gate    ") k
 
 -- ---- the names of bytes
 -- Of an LFO's, by their place from the LFO's first. No curve reads its rate.
@@ -23,7 +22,7 @@ envelopeName k = wordOf (ascii "attack|decay|sustain|release|trigger mode|attack
 
 -- Of all others. A level is oscillator 2's or the noise's.
 abbrev pub otherName : ℕ → List ℕ
-otherName n = wordOf (ascii "PWM source|pulse|saw|PWM depth|resonance|poles|gate time|level") (indexOf (16 ∷ 18 ∷ 19 ∷ 25 ∷ 41 ∷ 51 ∷ 160 ∷ []) n)
+otherName n = wordOf (ascii "PWM source|pulse|saw|PWM depth|resonance|poles|gate time|level") (indexOf (sourceByte ∷ pulseByte ∷ sawByte ∷ depthByte ∷ resonanceByte ∷ poleByte ∷ gatesByte ∷ []) n)
 
 -- Bytes 0 to 13 are two LFOs', of seven each, and 53 to 79 three envelopes', of nine each.
 unfoldable pub byteName : ℕ → List ℕ

@@ -2,7 +2,6 @@
 ghost use Rattle.text.specs.Text.{Puts};
 ghost use Rattle.labels.specs.Names.{titleOf, lfoName, envelopeName, otherName, byteName};
 ghost use Rattle.labels.specs.Notes.{switchNote, shapeNote, polesNote, sourceNote, depthNote};
-use codes::Code;
 use codes::DEPTH;
 use codes::GATE_TIME;
 use codes::POLE;
@@ -10,8 +9,7 @@ use codes::PULSE;
 use codes::RESONANCE;
 use codes::SAW;
 use codes::SOURCE;
-use codes::code_number;
-use text::place;
+use text::index_of;
 use text::put_word;
 
 // Bytes with a name of their own.
@@ -26,15 +24,14 @@ const OTHERS: [u8; 7] = [
 ];
 
 // ---- names
-// A generator's name, as wide as its column.
-pub fn put_title(out: &mut [u8], at: usize, code: Code) -> usize
-    ensures { λ r. ⌜ Puts (now (out .entry)) at (titleOf code) (now (out .exit)) r ⌝ }
+// The title of a panel, as wide as its column: a generator's by its code's number, then the arpeggio's.
+pub fn put_title(out: &mut [u8], at: usize, k: u8) -> usize
+    ensures { λ r. ⌜ Puts (now (out .entry)) at (titleOf k) (now (out .exit)) r ⌝ }
 {
-    let k = code_number(code);
     put_word(
         out,
         at,
-        b"VCA envelope     |VCF envelope     |Mod envelope     |LFO 1            |LFO 2            |LFO 1 unipolar   |LFO 2 unipolar   |LFO 1 fade       |LFO 2 fade       |Low-pass filter  |High-pass filter |Oscillator 1     |Oscillator 2     |Noise            ",
+        b"VCA envelope     |VCF envelope     |Mod envelope     |LFO 1            |LFO 2            |LFO 1 unipolar   |LFO 2 unipolar   |LFO 1 fade       |LFO 2 fade       |Low-pass filter  |High-pass filter |Oscillator 1     |Oscillator 2     |Noise            |Arpeggio gate    ",
         k as usize,
     )
 }
@@ -64,7 +61,7 @@ fn put_envelope_name(out: &mut [u8], at: usize, k: u8) -> usize
 fn put_other_name(out: &mut [u8], at: usize, n: u8) -> usize
     ensures { λ r. ⌜ Puts (now (out .entry)) at (otherName n) (now (out .exit)) r ⌝ }
 {
-    let k = place(&OTHERS, n);
+    let k = index_of(&OTHERS, n);
     put_word(
         out,
         at,

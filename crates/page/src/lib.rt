@@ -1,48 +1,35 @@
 // A program's sheet as one page of SVG, A4 landscape: the name, a panel for each generator, the arpeggio's gates.
 ghost use mathlib.Core.Path.{_≡_};
 ghost use Prim.Native.Nat.{_<_, _≤_};
+ghost use lib.Dec.{eqb};
 ghost use lib.ListN.{length};
 ghost use Rattle.text.specs.Text.{Puts};
 ghost use Rattle.codes.specs.Codes.{codeOf};
-ghost use Rattle.codes.specs.Bytes.{blockLength};
-ghost use Rattle.block.specs.Refusals.{chosenOf};
-ghost use Rattle.strip.specs.Strip.{stripOf};
-ghost use Rattle.panel.specs.Pieces.{titleText, beneathText};
-ghost use Rattle.labels.specs.Names.{titleOf};
-ghost use Rattle.page.specs.Panels.{placeText, panelEnd, blank, drawnText, chosenText, olderText, codeText, panelText, panelsText, arpeggioText};
+ghost use Rattle.codes.specs.Bytes.{blockLength, byteAt};
+ghost use Rattle.block.specs.Shapes.{shapeOf};
+ghost use Rattle.page.specs.Panels.{placeText, panelEnd, drawnText, olderText, codePanel, panelText, panelsText, arpeggioText};
 ghost use Rattle.page.specs.Page.{nameEnd, styleText, headText, footText, pageOf, pageText};
 use block::BLOCK;
-use block::Chosen;
-use block::choose;
+use block::shape_at;
+use block::strip_at;
+use codes::CODES;
 use codes::Code;
 use codes::CodeRead;
+use codes::GATE_TIME;
 use codes::code_from;
-use generator::Generator;
+use generator::of_shape;
 use panel::SAMPLES;
 use panel::put_frame;
 use panel::put_title;
 use text::put;
 use text::put_decimal;
 
-// The bytes of the name, with its terminator, and the byte of the gates.
+// The bytes of the name, with its terminator.
 const NAME: usize = 223;
 
 const NAME_END: usize = 240;
 
-const GATES: usize = 160;
-
-// The codes' panels.
-const PANELS: u8 = 14;
-
 // ---- a panel
-fn put_name(out: &mut [u8], at: usize, code: Code) -> usize
-    ensures { λ r. ⌜ Puts (now (out .entry)) at (titleText (titleOf code)) (now (out .exit)) r ⌝ }
-{
-    let mut next = put(out, at, b"<text class='t' y='-2930'>");
-    next = labels::put_title(out, next, code);
-    put(out, next, b"</text>")
-}
-
 fn put_place(out: &mut [u8], at: usize, k: u8) -> usize
     requires { ⌜ k < 15 ⌝ }
     ensures { λ r. ⌜ Puts (now (out .entry)) at (placeText k) (now (out .exit)) r ⌝ }
@@ -60,82 +47,75 @@ fn put_end(out: &mut [u8], at: usize) -> usize
     put(out, at, b"</g>\n")
 }
 
-fn put_drawn(out: &mut [u8], at: usize, g: Generator) -> usize
-    ensures { λ r. ⌜ Puts (now (out .entry)) at (drawnText g) (now (out .exit)) r ⌝ }
+// What is drawn of a code's generator.
+fn put_drawn(out: &mut [u8], at: usize, block: &[u8], code: Code) -> usize
+    requires { ⌜ length (now block) ≡ blockLength ⌝ }
+    ensures { λ r. ⌜ Puts (now (out .entry)) at (drawnText (shapeOf code (byteAt (now (block .entry))))) (now (out .exit)) r ⌝ }
 {
     let mut heights = [0.0f32; SAMPLES];
-    strip::fill(g, &mut heights);
+    strip_at(block, code, &mut heights);
+    let g = of_shape(shape_at(block, code));
     let mut next = panel::put_subtitle(out, at, g.scale(), g.anchored());
     next = panel::put_rest(out, next, g.rest());
     next = panel::put_marks(out, next, g.marks());
     panel::put_curve(out, next, &heights)
 }
 
-fn put_chosen(out: &mut [u8], at: usize, block: &[u8], k: u8) -> usize
-    ensures { λ r. ⌜ Puts (now (out .entry)) at (chosenText (chosenOf (now (block .entry)) k)) (now (out .exit)) r ⌝ }
+// The curve of an older program's generator, where there is such a program.
+fn put_older(out: &mut [u8], at: usize, older: &[u8], over: bool, code: Code) -> usize
+    requires { ⌜ over ≡ eqb (length (now older)) blockLength ⌝ }
+    ensures { λ r. ⌜ Puts (now (out .entry)) at (olderText (now (older .entry)) code) (now (out .exit)) r ⌝ }
 {
-    let chosen = choose(block, k);
-    match chosen {
-        Chosen::Generator(g) => put_drawn(out, at, g),
-        Chosen::Refused(_) => at,
+    if !over {
+        return at;
     }
-}
-
-// The curve of an older program's generator.
-fn put_beneath(out: &mut [u8], at: usize, g: Generator) -> usize
-    ensures { λ r. ⌜ Puts (now (out .entry)) at (beneathText (stripOf (g .shape) blank)) (now (out .exit)) r ⌝ }
-{
     let mut heights = [0.0f32; SAMPLES];
-    strip::fill(g, &mut heights);
-    panel::put_beneath(out, at, &heights)
+    strip_at(older, code, &mut heights);
+    panel::put_older_curve(out, at, &heights)
 }
 
-fn put_older(out: &mut [u8], at: usize, older: &[u8], k: u8) -> usize
-    ensures { λ r. ⌜ Puts (now (out .entry)) at (olderText (chosenOf (now (older .entry)) k)) (now (out .exit)) r ⌝ }
+fn put_panel(
+    out: &mut [u8],
+    at: usize,
+    older: &[u8],
+    over: bool,
+    block: &[u8],
+    k: u8,
+    code: Code,
+) -> usize
+    requires { ⌜ (k < 15) × (over ≡ eqb (length (now older)) blockLength) × (length (now block) ≡ blockLength) ⌝ }
+    ensures { λ r. ⌜ Puts (now (out .entry)) at (codePanel (now (older .entry)) (now (block .entry)) k (CodeRead.Known code)) (now (out .exit)) r ⌝ }
 {
-    let chosen = choose(older, k);
-    match chosen {
-        Chosen::Generator(g) => put_beneath(out, at, g),
-        Chosen::Refused(_) => at,
-    }
-}
-
-fn put_known(out: &mut [u8], at: usize, block: &[u8], code: Code) -> usize
-    ensures { λ r. ⌜ Puts (now (out .entry)) at (codeText (now (block .entry)) (CodeRead.Known code)) (now (out .exit)) r ⌝ }
-{
-    let mut next = put_name(out, at, code);
+    let mut next = put_place(out, at, k);
+    next = put_older(out, next, older, over, code);
+    next = put_drawn(out, next, block, code);
+    next = put_title(out, next, k);
     next = put_frame(out, next);
-    dials::put_dials(out, next, block, code)
+    next = dials::put_dials(out, next, block, code);
+    put_end(out, next)
 }
 
-fn put_code(out: &mut [u8], at: usize, block: &[u8], k: u8) -> usize
-    ensures { λ r. ⌜ Puts (now (out .entry)) at (codeText (now (block .entry)) (codeOf k)) (now (out .exit)) r ⌝ }
+// The panel of a code's number.
+fn put_numbered(out: &mut [u8], at: usize, older: &[u8], over: bool, block: &[u8], k: u8) -> usize
+    requires { ⌜ (k < 15) × (over ≡ eqb (length (now older)) blockLength) × (length (now block) ≡ blockLength) ⌝ }
+    ensures { λ r. ⌜ Puts (now (out .entry)) at (panelText (now (older .entry)) (now (block .entry)) k) (now (out .exit)) r ⌝ }
 {
     let read = code_from(k);
     match read {
-        CodeRead::Known(c) => put_known(out, at, block, c),
+        CodeRead::Known(code) => put_panel(out, at, older, over, block, k, code),
         CodeRead::Above => at,
     }
 }
 
-fn put_panel(out: &mut [u8], at: usize, older: &[u8], block: &[u8], k: u8) -> usize
-    requires { ⌜ k < 15 ⌝ }
-    ensures { λ r. ⌜ Puts (now (out .entry)) at (panelText (now (older .entry)) (now (block .entry)) k) (now (out .exit)) r ⌝ }
-{
-    let mut next = put_place(out, at, k);
-    next = put_older(out, next, older, k);
-    next = put_chosen(out, next, block, k);
-    next = put_code(out, next, block, k);
-    put_end(out, next)
-}
-
 fn put_panels(out: &mut [u8], at: usize, older: &[u8], block: &[u8]) -> usize
+    requires { ⌜ length (now block) ≡ blockLength ⌝ }
     ensures { λ r. ⌜ Puts (now (out .entry)) at (panelsText (now (older .entry)) (now (block .entry)) 14) (now (out .exit)) r ⌝ }
 {
+    let over = older.len() == BLOCK;
     let mut next = at;
     let mut k: u8 = 0;
-    while k < PANELS {
-        next = put_panel(out, next, older, block, k);
+    while k < CODES {
+        next = put_numbered(out, next, older, over, block, k);
         k += 1;
     }
     next
@@ -146,7 +126,7 @@ fn put_arpeggio(out: &mut [u8], at: usize, time: u8) -> usize
 {
     let bars = bars::bars(generator::arpeggiator_gates(time));
     let mut next = put_place(out, at, 14);
-    next = put_title(out, next, b"Arpeggio gate");
+    next = put_title(out, next, 14);
     next = put(
         out,
         next,
@@ -220,7 +200,7 @@ fn put_page(out: &mut [u8], older: &[u8], block: &[u8]) -> usize
     let mut next = put_style(out, 0);
     next = put_head(out, next, &block[NAME..end]);
     next = put_panels(out, next, older, block);
-    next = put_arpeggio(out, next, block[GATES]);
+    next = put_arpeggio(out, next, block[GATE_TIME]);
     put_foot(out, next)
 }
 

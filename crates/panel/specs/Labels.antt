@@ -7,18 +7,18 @@ use lib.Ieee.{Float}
 use Rattle.exact.specs.Binary32.{_⊘_, bits}
 use Rattle.text.specs.Text.{ascii}
 use Rattle.text.specs.Spelled.{decimalOf}
+use Rattle.text.specs.Words.{wordOf}
 use Rattle.fixed_point.specs.Nearest.{nearestOf}
 use Rattle.generator.specs.declared.Scale.{Scale}
 use Rattle.generator.specs.declared.Scale.the-variants.{Normalised, Turns, Octaves}
-use Rattle.generator.specs.declared.Segment.{Segment}
-use Rattle.generator.specs.declared.Segment.the-variants.{Attack, Decay, Sustain, Release}
+use Rattle.generator.specs.Marks.{kindNumber}
 use Rattle.generator.specs.declared.MarkKind.{MarkKind}
 use Rattle.generator.specs.declared.MarkKind.the-variants.{Segment as ASegment, Corner, Cycle, Tap, Width, Sweep}
 
 -- ---- what the horizontal covers
 -- The whole number nearest to x, for an x from 0 to 8: 8 times an eighth of it.
-unfoldable pub wholeOf : Float → ℕ
-wholeOf x = nearestOf (x ⊘ bits 0x4100_0000) 8
+unfoldable pub nearestWhole : Float → ℕ
+nearestWhole x = nearestOf (x ⊘ bits 0x4100_0000) 8
 
 -- A number of turns; one is not plural.
 unfoldable pub turnsText : ℕ → List ℕ
@@ -27,8 +27,8 @@ turnsText n = cond (eqb n 1) (ascii "1 turn, ") (decimalOf n ++ ascii " turns, "
 -- Turns, octaves, or nothing that is published.
 unfoldable pub scaleText : Scale → List ℕ
 scaleText Normalised = []
-scaleText (Turns x) = turnsText (wholeOf x)
-scaleText (Octaves x) = decimalOf (wholeOf x) ++ ascii " octaves, "
+scaleText (Turns x) = turnsText (nearestWhole x)
+scaleText (Octaves x) = decimalOf (nearestWhole x) ++ ascii " octaves, "
 
 -- Whether the left edge is a moment, or for a filter a frequency; a curve that runs free is caught anywhere.
 unfoldable pub edgeText : Bool → List ℕ
@@ -40,21 +40,9 @@ unfoldable pub subtitleText : Scale → Bool → List ℕ
 subtitleText scale anchored = ascii "<text y='-2600'>" ++ scaleText scale ++ edgeText anchored
 
 -- ---- what is at a mark
--- A segment's letter, to the right of its rule.
-unfoldable pub segmentText : Segment → List ℕ
-segmentText Attack = ascii " dx='50'>A</text>"
-segmentText Decay = ascii " dx='50'>D</text>"
-segmentText Sustain = ascii " dx='50'>S</text>"
-segmentText Release = ascii " dx='50'>R</text>"
-
--- A letter, or a word below its rule.
-unfoldable pub kindText : MarkKind → List ℕ
-kindText (ASegment s) = segmentText s
-kindText Corner = ascii " class='m'>corner</text>"
-kindText Cycle = ascii " class='m'>cycle</text>"
-kindText Tap = ascii " class='m'>tap</text>"
-kindText Width = ascii " class='m'>width</text>"
-kindText Sweep = ascii " class='m'>sweep</text>"
+-- By its kind's number: the letter of a segment that starts, to the right of its rule, or a word below the rule.
+abbrev pub kindText : MarkKind → List ℕ
+kindText kind = wordOf (ascii " dx='50'>A</text>| dx='50'>D</text>| dx='50'>S</text>| dx='50'>R</text>| class='m'>corner</text>| class='m'>cycle</text>| class='m'>tap</text>| class='m'>width</text>| class='m'>sweep</text>") (kindNumber kind)
 
 -- The row of mark number k under the frame: a row for each mark, so that two at one place are both read; cycles share the fourth.
 unfoldable pub rowOf : ℕ → MarkKind → ℕ

@@ -8,13 +8,14 @@ use Rattle.exact.specs.Binary32.{_⊘_, bits}
 use Rattle.text.specs.Text.{ascii}
 use Rattle.text.specs.Spelled.{decimalOf}
 use Rattle.fixed_point.specs.Nearest.{nearestOf}
-use Rattle.generator.specs.declared.Segment.the-variants.{Attack}
 use Rattle.generator.specs.declared.MarkKind.{MarkKind}
-use Rattle.generator.specs.declared.MarkKind.the-variants.{Segment as ASegment}
 use Rattle.generator.specs.declared.Mark.{Mark}
 use Rattle.generator.specs.declared.Marks.{Marks}
 use Rattle.generator.specs.declared.Gate.{Gate}
 use Rattle.generator.specs.declared.Gates.{Gates}
+use Rattle.generator.specs.Marks.{markAt}
+use Rattle.generator.specs.Gates.{gateAt}
+use Rattle.labels.specs.Names.{titleOf}
 use Rattle.panel.specs.Labels.{kindText, rowOf}
 
 -- A position across the frame, and a height in it, in hundredths of a millimetre.
@@ -27,8 +28,9 @@ heightUnits h = nearestOf h 2500
 abbrev pub frameText : List ℕ
 frameText = ascii "<path class='f' d='M0-2500H5000V0H0Z'/>"
 
-unfoldable pub titleText : List ℕ → List ℕ
-titleText title = ascii "<text class='t' y='-2930'>" ++ title ++ ascii "</text>"
+-- The title of panel k.
+unfoldable pub titleText : ℕ → List ℕ
+titleText k = ascii "<text class='t' y='-2930'>" ++ titleOf k ++ ascii "</text>"
 
 -- The level where the shape does nothing, dashed.
 unfoldable pub restText : Float → List ℕ
@@ -48,12 +50,12 @@ pointsText hs (suc k) = pointsText hs k ++ pointText k (getD hs k nan)
 unfoldable pub lineText : List ℕ → List Float → List ℕ
 lineText start hs = start ++ pointsText hs (min (length hs) 501) ++ ascii "'/>"
 
--- The curve; and one that lies beneath it, in grey.
+-- The curve; and that of an older program, which lies beneath it in grey.
 abbrev pub curveText : List Float → List ℕ
 curveText hs = lineText (ascii "<polyline class='c' points='") hs
 
-abbrev pub beneathText : List Float → List ℕ
-beneathText hs = lineText (ascii "<polyline class='u' points='") hs
+abbrev pub olderCurveText : List Float → List ℕ
+olderCurveText hs = lineText (ascii "<polyline class='u' points='") hs
 
 -- ---- the marks
 -- A rule through the frame, down to its row.
@@ -68,18 +70,14 @@ labelText row across kind = ascii "<text x='" ++ decimalOf across ++ ascii "' y=
 unfoldable pub markText : ℕ → Mark → List ℕ
 markText row m = ruleText row (acrossUnits (m .at)) ++ labelText row (acrossUnits (m .at)) (m .kind)
 
--- Mark number k; past the places, which no use reaches, an attack at a NaN.
-abbrev pub markAt : List Mark → ℕ → Mark
-markAt places k = getD places k (record { at = nan; kind = ASegment Attack })
-
 -- The first k marks.
-unfoldable pub rulesText : List Mark → ℕ → List ℕ
-rulesText places zero = []
-rulesText places (suc k) = rulesText places k ++ markText (rowOf k (markAt places k .kind)) (markAt places k)
+unfoldable pub rulesText : Marks → ℕ → List ℕ
+rulesText m zero = []
+rulesText m (suc k) = rulesText m k ++ markText (rowOf k (markAt m k .kind)) (markAt m k)
 
 -- All that are used; a record has six places.
 unfoldable pub marksText : Marks → List ℕ
-marksText m = rulesText (m .places) (min (m .count) 6)
+marksText m = rulesText m (min (m .count) 6)
 
 -- ---- the bars of the arpeggio, of four steps
 -- A bar from one step's place to another's: a step is a quarter of the frame.
@@ -87,18 +85,14 @@ unfoldable pub barText : Gate → List ℕ
 barText g =
     ascii "<path class='g' d='M" ++ decimalOf (acrossUnits (g .start ⊘ bits 0x4080_0000)) ++ ascii " 0V-1500H" ++ decimalOf (acrossUnits (g .end ⊘ bits 0x4080_0000)) ++ ascii "V0Z'/>"
 
--- Bar number k; past the places, which no use reaches, a bar of NaNs.
-abbrev pub barAt : List Gate → ℕ → Gate
-barAt places k = getD places k (record { start = nan; end = nan })
-
 -- The first k bars.
-unfoldable pub someBars : List Gate → ℕ → List ℕ
-someBars places zero = []
-someBars places (suc k) = someBars places k ++ barText (barAt places k)
+unfoldable pub someBars : Gates → ℕ → List ℕ
+someBars g zero = []
+someBars g (suc k) = someBars g k ++ barText (gateAt g k)
 
 -- All that are used; a record has four places.
 unfoldable pub barsText : Gates → List ℕ
-barsText g = someBars (g .places) (min (g .count) 4)
+barsText g = someBars g (min (g .count) 4)
 
 -- Where each step ends, and the steps' numbers.
 abbrev pub stepsText : List ℕ

@@ -3,8 +3,8 @@ ghost use mathlib.Core.Path.{_≡_};
 ghost use Prim.Native.Nat.{_<_, _≤_};
 ghost use lib.ListN.{length};
 ghost use Rattle.text.specs.Text.{Puts};
-ghost use Rattle.panel.specs.Labels.{wholeOf, turnsText, scaleText, edgeText, subtitleText, segmentText, kindText, rowOf};
-ghost use Rattle.panel.specs.Pieces.{frameText, titleText, restText, pointText, pointsText, lineText, curveText, beneathText, ruleText, labelText, markText, marksText, barText, barsText, stepsText};
+ghost use Rattle.panel.specs.Labels.{nearestWhole, turnsText, scaleText, edgeText, subtitleText, kindText, rowOf};
+ghost use Rattle.panel.specs.Pieces.{frameText, titleText, restText, pointText, pointsText, lineText, curveText, olderCurveText, ruleText, labelText, markText, marksText, barText, barsText, stepsText};
 use fixed_point::nearest;
 use generator::GATES_DRAWN;
 use generator::Gate;
@@ -14,17 +14,18 @@ use generator::Mark;
 use generator::MarkKind;
 use generator::Marks;
 use generator::Scale;
-use generator::Segment;
+use generator::kind_number;
 use lists::at_most;
 use text::put;
 use text::put_decimal;
+use text::put_word;
 
 // The samples between the two edges of a frame.
 pub const SAMPLES: usize = 501;
 
 // ---- the line between title and frame
-fn whole(x: f32) -> u64
-    ensures { λ r. ⌜ r ≡ wholeOf x ⌝ }
+fn nearest_whole(x: f32) -> u64
+    ensures { λ r. ⌜ r ≡ nearestWhole x ⌝ }
 {
     nearest(x / 8.0, 8)
 }
@@ -44,9 +45,9 @@ fn put_scale(out: &mut [u8], at: usize, scale: Scale) -> usize
 {
     match scale {
         Scale::Normalised => at,
-        Scale::Turns(x) => put_turns(out, at, whole(x)),
+        Scale::Turns(x) => put_turns(out, at, nearest_whole(x)),
         Scale::Octaves(x) => {
-            let next = put_decimal(out, at, whole(x));
+            let next = put_decimal(out, at, nearest_whole(x));
             put(out, next, b" octaves, ")
         }
     }
@@ -69,11 +70,12 @@ pub fn put_subtitle(out: &mut [u8], at: usize, scale: Scale, anchored: bool) -> 
     put_edge(out, next, anchored)
 }
 
-pub fn put_title(out: &mut [u8], at: usize, title: &[u8]) -> usize
-    ensures { λ r. ⌜ Puts (now (out .entry)) at (titleText (now (title .entry))) (now (out .exit)) r ⌝ }
+// The title of panel k.
+pub fn put_title(out: &mut [u8], at: usize, k: u8) -> usize
+    ensures { λ r. ⌜ Puts (now (out .entry)) at (titleText k) (now (out .exit)) r ⌝ }
 {
     let mut next = put(out, at, b"<text class='t' y='-2930'>");
-    next = put(out, next, title);
+    next = labels::put_title(out, next, k);
     put(out, next, b"</text>")
 }
 
@@ -131,36 +133,24 @@ pub fn put_curve(out: &mut [u8], at: usize, heights: &[f32]) -> usize
     put_line(out, at, b"<polyline class='c' points='", heights)
 }
 
-// A curve that lies beneath another.
-pub fn put_beneath(out: &mut [u8], at: usize, heights: &[f32]) -> usize
-    ensures { λ r. ⌜ Puts (now (out .entry)) at (beneathText (now (heights .entry))) (now (out .exit)) r ⌝ }
+// The curve of an older program, which lies beneath.
+pub fn put_older_curve(out: &mut [u8], at: usize, heights: &[f32]) -> usize
+    ensures { λ r. ⌜ Puts (now (out .entry)) at (olderCurveText (now (heights .entry))) (now (out .exit)) r ⌝ }
 {
     put_line(out, at, b"<polyline class='u' points='", heights)
 }
 
 // ---- the marks
-fn put_segment(out: &mut [u8], at: usize, segment: Segment) -> usize
-    ensures { λ r. ⌜ Puts (now (out .entry)) at (segmentText segment) (now (out .exit)) r ⌝ }
-{
-    match segment {
-        Segment::Attack => put(out, at, b" dx='50'>A</text>"),
-        Segment::Decay => put(out, at, b" dx='50'>D</text>"),
-        Segment::Sustain => put(out, at, b" dx='50'>S</text>"),
-        Segment::Release => put(out, at, b" dx='50'>R</text>"),
-    }
-}
-
 fn put_kind(out: &mut [u8], at: usize, kind: MarkKind) -> usize
     ensures { λ r. ⌜ Puts (now (out .entry)) at (kindText kind) (now (out .exit)) r ⌝ }
 {
-    match kind {
-        MarkKind::Segment(s) => put_segment(out, at, s),
-        MarkKind::Corner => put(out, at, b" class='m'>corner</text>"),
-        MarkKind::Cycle => put(out, at, b" class='m'>cycle</text>"),
-        MarkKind::Tap => put(out, at, b" class='m'>tap</text>"),
-        MarkKind::Width => put(out, at, b" class='m'>width</text>"),
-        MarkKind::Sweep => put(out, at, b" class='m'>sweep</text>"),
-    }
+    let k = kind_number(kind);
+    put_word(
+        out,
+        at,
+        b" dx='50'>A</text>| dx='50'>D</text>| dx='50'>S</text>| dx='50'>R</text>| class='m'>corner</text>| class='m'>cycle</text>| class='m'>tap</text>| class='m'>width</text>| class='m'>sweep</text>",
+        k as usize,
+    )
 }
 
 fn row(k: usize, kind: MarkKind) -> usize

@@ -116,5 +116,5 @@ marked : Taps × List ℕ → Bool
 marked r = same (r .1) (take (marks (r .0) .count) (marks (r .0) .places))
 
 marks-agree : T (allPass marked markRows)
-unfolding allPass marked markRows same marks plain noNumbers outside taps floats toBits ofBits lt kindNumber padded countOf stored tapMarks
+unfolding allPass marked markRows same marks plain noNumbers outside taps floats toBits ofBits lt padded countOf stored tapMarks
 marks-agree = tt

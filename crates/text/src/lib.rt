@@ -122,7 +122,7 @@ fn upper(d: u8) -> u8
 }
 
 // A byte by its two digits.
-fn put_code(out: &mut [u8], at: usize, b: u8) -> usize
+fn put_hex_byte(out: &mut [u8], at: usize, b: u8) -> usize
     ensures { λ r. ⌜ Puts (now (out .entry)) at (hexByteOf b) (now (out .exit)) r ⌝ }
 {
     let first = put(out, at, b"\\x");
@@ -135,10 +135,10 @@ fn put_shown(out: &mut [u8], at: usize, b: u8) -> usize
     ensures { λ r. ⌜ Puts (now (out .entry)) at (shownOf b) (now (out .exit)) r ⌝ }
 {
     if b < 32 {
-        return put_code(out, at, b);
+        return put_hex_byte(out, at, b);
     }
     if 126 < b {
-        return put_code(out, at, b);
+        return put_hex_byte(out, at, b);
     }
     put_byte(out, at, b)
 }
@@ -227,8 +227,8 @@ pub fn put_word(out: &mut [u8], at: usize, words: &[u8], k: usize) -> usize
     next
 }
 
-// The place of a byte in a list.
-pub fn place(list: &[u8], b: u8) -> usize
+// The index of a byte in a list, and the list's length where it is not there.
+pub fn index_of(list: &[u8], b: u8) -> usize
     ensures { λ r. ⌜ r ≡ indexOf (now (list .entry)) b ⌝ }
 {
     let mut i: usize = 0;

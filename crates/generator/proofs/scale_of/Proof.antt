@@ -5,27 +5,21 @@ use Rattle.generator.proofs.scale_of.Statement.{statement}
 use Rattle.generator.proofs.scale_of.Tie as tie
 
 returns : tie.Need-returns
-unfolding scaleOf
 returns c = simp (c .enum-told .given .1)
 
 returns-2 : tie.Need-returns-2
-unfolding scaleOf
 returns-2 c = simp (c .enum-told2 .given .1)
 
 returns-3 : tie.Need-returns-3
-unfolding scaleOf
 returns-3 c = simp (c .before .shape .given .1)
 
 returns-4 : tie.Need-returns-4
-unfolding scaleOf
 returns-4 c = simp (c .before .before .shape2 .given .1)
 
 returns-5 : tie.Need-returns-5
-unfolding scaleOf
 returns-5 c = simp (c .enum-told3 .given .1)
 
 returns-6 : tie.Need-returns-6
-unfolding scaleOf
 returns-6 c = simp (c .enum-told4 .given .1)
 
 pub scale-of-spec : {M : Type 1} → statement M

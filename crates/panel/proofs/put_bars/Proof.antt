@@ -12,7 +12,7 @@ use Rattle.panel.proofs.put_bars.Statement.{statement}
 use Rattle.panel.proofs.put_bars.Tie as tie
 
 abbrev Inv-loop : tie.InvT-loop
-Inv-loop out₀ at bars count next₀ i₀ out next i = (i ≤ count) × (count ≤ 4) × (length out ≡ length out₀) × Puts out₀ at (someBars (bars .places) i) out next
+Inv-loop out₀ at bars count next₀ i₀ out next i = (i ≤ count) × (count ≤ 4) × (length out ≡ length out₀) × Puts out₀ at (someBars bars i) out next
 
 abbrev μ-loop : tie.MeasureT-loop
 μ-loop out₀ at bars count next₀ i₀ out next i = count - i

@@ -12,7 +12,7 @@ use Rattle.panel.proofs.put_marks.Statement.{statement}
 use Rattle.panel.proofs.put_marks.Tie as tie
 
 abbrev Inv-loop : tie.InvT-loop
-Inv-loop out₀ at marks count next₀ i₀ out next i = (i ≤ count) × (count ≤ 6) × (length out ≡ length out₀) × Puts out₀ at (rulesText (marks .places) i) out next
+Inv-loop out₀ at marks count next₀ i₀ out next i = (i ≤ count) × (count ≤ 6) × (length out ≡ length out₀) × Puts out₀ at (rulesText marks i) out next
 
 abbrev μ-loop : tie.MeasureT-loop
 μ-loop out₀ at marks count next₀ i₀ out next i = count - i

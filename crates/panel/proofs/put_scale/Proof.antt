@@ -12,11 +12,11 @@ returns c = simp (c .enum-told .given .1) (puts-none _ _)
 
 returns-2 : tie.Need-returns-2
 unfolding scaleText
-returns-2 c = simp (c .before .before .before .before .before .before .scale .given .1) (rw (c .before .before .before .whole .ensures) at (c .before .before .put-turns .ensures))
+returns-2 c = simp (c .before .before .before .before .before .before .scale .given .1) (rw (c .before .before .before .nearest-whole .ensures) at (c .before .before .put-turns .ensures))
 
 returns-3 : tie.Need-returns-3
 unfolding scaleText
-returns-3 c = simp (c .before .before .before .before .before .before .before .before .before .before .before .scale2 .given .1) (rw (c .before .before .before .before .before .before .before .before .whole2 .ensures) at (c .before .before .before .before .before .before .before .put-decimal .ensures ⨾
+returns-3 c = simp (c .before .before .before .before .before .before .before .before .before .before .before .scale2 .given .1) (rw (c .before .before .before .before .before .before .before .before .nearest-whole2 .ensures) at (c .before .before .before .before .before .before .before .put-decimal .ensures ⨾
     c .before .before .put .ensures))
 
 pub put-scale-spec : {M : Type 1} → statement M

@@ -7,11 +7,11 @@ use Rattle.text.proofs.put_shown.Tie as tie
 
 returns : tie.Need-returns
 unfolding shownOf
-returns c = simp (lt-ltb _ _ (c .before .before .before .before .if1 .taken)) (c .before .before .put-code .ensures)
+returns c = simp (lt-ltb _ _ (c .before .before .before .before .if1 .taken)) (c .before .before .put-hex-byte .ensures)
 
 returns-2 : tie.Need-returns-2
 unfolding shownOf
-returns-2 c = simp (le-ltb _ _ (c .before .before .before .before .before .if1 .left), lt-ltb _ _ (c .before .before .before .before .if2 .taken)) (c .before .before .put-code2 .ensures)
+returns-2 c = simp (le-ltb _ _ (c .before .before .before .before .before .if1 .left), lt-ltb _ _ (c .before .before .before .before .if2 .taken)) (c .before .before .put-hex-byte2 .ensures)
 
 returns-3 : tie.Need-returns-3
 unfolding shownOf

@@ -13,31 +13,24 @@ unfolding filterUnity div ofBits
 unity = refl
 
 returns : tie.Need-returns
-unfolding restOf
 returns c = simp (c .before .before .shape .given .1, c .if1 .taken)
 
 returns-2 : tie.Need-returns-2
-unfolding restOf
 returns-2 c = simp (c .enum-told .given .1)
 
 returns-3 : tie.Need-returns-3
-unfolding restOf
 returns-3 c = simp (c .enum-told2 .given .1)
 
 returns-4 : tie.Need-returns-4
-unfolding restOf
 returns-4 c = simp (c .before .before .shape .given .1, c .if1 .left)
 
 returns-5 : tie.Need-returns-5
-unfolding restOf
 returns-5 c = simp (c .enum-told3 .given .1) unity
 
 returns-6 : tie.Need-returns-6
-unfolding restOf
 returns-6 c = simp (c .enum-told4 .given .1)
 
 returns-7 : tie.Need-returns-7
-unfolding restOf
 returns-7 c = simp (c .enum-told5 .given .1)
 
 pub rest-spec : {M : Type 1} → statement M
