@@ -23,10 +23,13 @@ use std::time::{Duration, Instant};
 /// How long one measurement takes at least. It is short, so that some fall between the other work of the machine.
 const MEASURED: Duration = Duration::from_micros(100);
 
-/// The sides take turns until each has so many measurements on a quiet core, or until that has taken too long.
-const QUIET: usize = 16;
-const ENOUGH: Duration = Duration::from_millis(300);
-const FEWEST: usize = 3;
+/// The sides take turns until each has so many measurements on a quiet core, or until it has taken too long.
+const QUIET: usize = 8;
+const ENOUGH: Duration = Duration::from_millis(60);
+
+/// A figure that has fewer quiet measurements of some side is taken up again later, so many times at most.
+const FEWEST: usize = 2;
+const PASSES: usize = 4;
 
 const LENGTHS: [usize; 4] = [2, 64, 512, 4096];
 
@@ -306,15 +309,39 @@ fn gauge() -> f64 {
     start.elapsed().as_secs_f64()
 }
 
-/// The best measurement of a side: seconds for a call, and the gauge beside it.
+/// The best measurement of a side, quiet ones before others: seconds for a call, and the gauge beside it; and how many were quiet.
 #[derive(Clone, Copy)]
 struct Best {
     time: f64,
     gauge: f64,
+    quiet: usize,
 }
 
-/// The best of each side, quiet ones before others; `least` is the least that the gauge has shown.
-fn race(work: Work, sides: &[Side], data: &mut Data, least: &mut f64) -> Vec<Best> {
+impl Best {
+    const NONE: Self = Self {
+        time: f64::INFINITY,
+        gauge: f64::INFINITY,
+        quiet: 0,
+    };
+
+    fn add(&mut self, time: f64, gauge: f64, least: f64) {
+        let occupied = |gauge: f64| gauge > least * report::OCCUPIED;
+        if occupied(self.gauge) {
+            self.quiet = 0;
+        }
+        self.quiet += usize::from(!occupied(gauge));
+        if (occupied(gauge), time) < (occupied(self.gauge), self.time) {
+            (self.time, self.gauge) = (time, gauge);
+        }
+    }
+}
+
+/// Measures the sides in turn; `least` is the least that the gauge has shown so far.
+fn race(work: Work, sides: &[Side], data: &mut Data, best: &mut [Best], least: &mut f64) {
+    let few = |best: &[Best], n| best.iter().any(|best| best.quiet < n);
+    if !few(best, FEWEST) {
+        return;
+    }
     let mut times = |side| {
         let mut n = 1;
         while seconds(work, side, data, n) * f64::from(n) < MEASURED.as_secs_f64() {
@@ -323,13 +350,11 @@ fn race(work: Work, sides: &[Side], data: &mut Data, least: &mut f64) -> Vec<Bes
         n
     };
     let times: Vec<u32> = sides.iter().map(&mut times).collect();
-    let none = Best { time: f64::INFINITY, gauge: f64::INFINITY };
-    let mut best = vec![none; sides.len()];
-    let mut quiet = vec![0; sides.len()];
     let start = Instant::now();
-    let mut round = 0;
-    while round < FEWEST || start.elapsed() < ENOUGH && quiet.iter().any(|&n| n < QUIET) {
-        round += 1;
+    for round in 0.. {
+        if round >= FEWEST && (start.elapsed() > ENOUGH || !few(best, QUIET)) {
+            break;
+        }
         for (i, side) in sides.iter().enumerate() {
             // The side before has left its own traces in caches and predictors.
             if times[i] > 1 {
@@ -339,39 +364,43 @@ fn race(work: Work, sides: &[Side], data: &mut Data, least: &mut f64) -> Vec<Bes
             let time = seconds(work, side, data, times[i]) / work.calls() as f64;
             let after = gauge();
             *least = least.min(before).min(after);
-            let now = Best { time, gauge: before.max(after) };
-            let occupied = |best: Best| best.gauge > *least * report::OCCUPIED;
-            if (occupied(now), now.time) < (occupied(best[i]), best[i].time) {
-                best[i] = now;
-            }
-            if !occupied(now) {
-                quiet[i] += 1;
-            }
+            best[i].add(time, before.max(after), *least);
         }
     }
-    best
 }
 
 fn time(layout: usize) {
     let sides = sides();
-    let mut least = (0..1000).map(|_| gauge()).fold(f64::INFINITY, f64::min);
     let begin = layout * 20;
-    figures(begin, |row, work, data| {
-        assert_agreed(row, work, &sides, data);
-        for (side, best) in sides.iter().zip(race(work, &sides, data, &mut least)) {
-            println!("time\t{row}\t{}\t{}\t{:e}\t{:e}", work.length(), side.name, best.time, best.gauge);
+    let mut least = (0..1000).map(|_| gauge()).fold(f64::INFINITY, f64::min);
+    let mut lines = Vec::new();
+    for pass in 0..PASSES {
+        let mut at = 0;
+        figures(begin, |row, work, data| {
+            if pass == 0 {
+                assert_agreed(row, work, &sides, data);
+                lines.push((format!("time\t{row}\t{}", work.length()), vec![Best::NONE; sides.len()]));
+            }
+            race(work, &sides, data, &mut lines[at].1, &mut least);
+            at += 1;
+        });
+    }
+    for (line, best) in lines {
+        for (side, best) in sides.iter().zip(best) {
+            println!("{line}\t{}\t{:e}\t{:e}", side.name, best.time, best.gauge);
         }
-    });
+    }
     // How our strip's cost grows.
     let mut data = data(begin);
     for (shape, slew) in [(0, 0), (0, 1), (0, 255), (2, SLEW), (5, SLEW)] {
         data.program.0[2] = shape as u8;
         data.program.0[6] = slew;
         for n in LENGTHS {
-            let best = race(Work::Strip { code: 3, n }, &sides[..1], &mut data, &mut least)[0];
+            let mut best = [Best::NONE];
+            (0..PASSES).for_each(|_| race(Work::Strip { code: 3, n }, &sides[..1], &mut data, &mut best, &mut least));
             let answer = strips(sides[0].strip[3], &data.program, 3, &mut data.room[..n], 1);
             let [_, steps] = unsafe { answer.steps.assume_init() };
-            println!("growth\t{}, slew {slew}\t{n}\t{steps}\t{:e}\t{:e}", SHAPES[shape], best.time, best.gauge);
+            println!("growth\t{}, slew {slew}\t{n}\t{steps}\t{:e}\t{:e}", SHAPES[shape], best[0].time, best[0].gauge);
         }
     }
 }

@@ -1,2 +1,3 @@
 -- Where the name ends.
+pub mod Blank
 pub mod NameEnd

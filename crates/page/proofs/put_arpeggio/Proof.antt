@@ -9,15 +9,8 @@ use Rattle.page.proofs.put_arpeggio.Tie as tie
 returns : tie.Need-returns
 unfolding arpeggioText
 returns c =
-    rw (c .before .before .before .before .before .before .before .before .before .before .before .before .before .before .before .before .before .before .before .before .before .before .before .before .before .before .before .before .before .before .before .before .before .before .before .bars .ensures, c .before .before .before .before .before .before .before .before .before .before .before .before .before .before .before .before .before .before .before .before .before .before .before .before .before .before .before .before .before .before .before .before .before .before .before .before .arpeggiator-gates .ensures) at
-    (c .before .before .before .before .before .before .before .before .before .before .before .before .before .before .before .before .before .before .before .before .before .before .before .before .before .before .before .before .before .before .before .before .before .put-place .ensures ⨾
-    c .before .before .before .before .before .before .before .before .before .before .before .before .before .before .before .before .before .before .before .before .before .before .before .before .before .before .before .before .put-title .ensures ⨾
-    c .before .before .before .before .before .before .before .before .before .before .before .before .before .before .before .before .before .before .before .before .before .before .before .put .ensures ⨾
-    c .before .before .before .before .before .before .before .before .before .before .before .before .before .before .before .before .before .before .before .put-bars .ensures ⨾
-    c .before .before .before .before .before .before .before .before .before .before .before .before .before .before .before .put-steps .ensures ⨾
-    c .before .before .before .before .before .before .before .before .before .before .before .put-frame .ensures ⨾
-    c .before .before .before .before .before .before .put-dial .ensures ⨾
-    c .before .before .put-end .ensures)
+    rw (c .before .before .before .before .before .before .before .before .before .before .before .before .before .before .before .before .before .before .before .before .before .before .before .before .before .before .before .before .before .before .before .before .before .before .bars .ensures, c .before .before .before .before .before .before .before .before .before .before .before .before .before .before .before .before .before .before .before .before .before .before .before .before .before .before .before .before .before .before .before .before .before .before .before .arpeggiator-gates .ensures) at
+    (c .before .before .before .before .before .before .before .before .before .before .before .before .before .before .before .before .before .before .before .before .before .before .before .before .before .before .before .before .before .before .before .before .put-place .ensures ⨾ c .before .before .before .before .before .before .before .before .before .before .before .before .before .before .before .before .before .before .before .before .before .before .before .before .before .before .before .before .put-title .ensures ⨾ c .before .before .before .before .before .before .before .before .before .before .before .before .before .before .before .before .before .before .before .before .before .before .before .put .ensures ⨾ c .before .before .before .before .before .before .before .before .before .before .before .before .before .before .before .before .before .before .before .put-bars .ensures ⨾ c .before .before .before .before .before .before .before .before .before .before .before .before .before .before .before .put-steps .ensures ⨾ c .before .before .before .before .before .before .before .before .before .before .before .put-frame .ensures ⨾ c .before .before .before .before .before .before .put-dial .ensures ⨾ c .before .before .put-end .ensures)
 
 pub put-arpeggio-spec : {M : Type 1} → statement M
 put-arpeggio-spec =
@@ -26,7 +19,6 @@ put-arpeggio-spec =
     (λ c κs. search needs)
     (λ c κs. search needs)
     (λ c κs. search needs)
-    (λ c. refl)
     (λ c κs. search needs)
     (λ c. refl)
     (λ c κs. search needs)

@@ -1,31 +1,35 @@
 -- `put_drawn` writes `drawnText`: what the generator says of itself, then the strip. Assumes nothing.
-use mathlib.Core.Path.{refl}
-use Rattle.text.proofs.Writing.{_⨾_}
+use Rattle.page.proofs.Blank.{blank-filled}
 use Rattle.page.specs.Panels.{drawnText}
+use Rattle.generator.specs.Generator.{generatorOf}
+use Rattle.text.proofs.Writing.{_⨾_}
 use borrow.Author.Needs.{needs}
 use Rattle.page.proofs.put_drawn.Statement.{statement}
 use Rattle.page.proofs.put_drawn.Tie as tie
 
+-- src/lib.rt:51:1
 returns : tie.Need-returns
-unfolding drawnText
-returns c =
-    rw (
+unfolding drawnText generatorOf
+returns c = 
+    simp blank-filled
+    (rw (
       c .before .before .before .before .before .before .before .before .before .before .before .before .before .before .before .before .before .before .before .scale .ensures,
       c .before .before .before .before .before .before .before .before .before .before .before .before .before .before .before .before .before .before .anchored .ensures,
       c .before .before .before .before .before .before .before .before .before .before .before .before .before .rest .ensures,
       c .before .before .before .before .before .before .before .before .marks .ensures,
-      c .before .before .before .before .before .before .before .before .before .before .before .before .before .before .before .before .before .before .before .before .before .before .fill .ensures .1,
+      c .before .before .before .before .before .before .before .before .before .before .before .before .before .before .before .before .before .before .before .before .before .before .before .before .strip-at .ensures .1,
+      c .before .before .before .before .before .before .before .before .before .before .before .before .before .before .before .before .before .before .before .before .before .of-shape .ensures,
+      c .before .before .before .before .before .before .before .before .before .before .before .before .before .before .before .before .before .before .before .before .before .before .shape-at .ensures,
     ) at
-    (c .before .before .before .before .before .before .before .before .before .before .before .before .before .before .before .before .before .put-subtitle .ensures ⨾
-    c .before .before .before .before .before .before .before .before .before .before .before .before .put-rest .ensures ⨾
-    c .before .before .before .before .before .before .before .put-marks .ensures ⨾
-    c .before .before .put-curve .ensures)
+    (c .before .before .before .before .before .before .before .before .before .before .before .before .before .before .before .before .before .put-subtitle .ensures ⨾ c .before .before .before .before .before .before .before .before .before .before .before .before .put-rest .ensures ⨾ c .before .before .before .before .before .before .before .put-marks .ensures ⨾ c .before .before .put-curve .ensures))
 
 pub put-drawn-spec : {M : Type 1} → statement M
 put-drawn-spec =
     tie.close
     (tie.spec
-    (λ c. refl)
+    (λ c. search needs)
+    (λ c κs. search needs)
+    (λ c κs. search needs)
     (λ c κs. search needs)
     (λ c κs. search needs)
     (λ c κs. search needs)

@@ -1,23 +1,21 @@
--- `put_panel` writes `panelText`. Assumes nothing.
+-- `put_panel` writes `codePanel` of a known code. Assumes nothing.
+use Rattle.page.specs.Panels.{codePanel}
 use Rattle.text.proofs.Writing.{_⨾_}
-use Rattle.page.specs.Panels.{panelText}
 use borrow.Author.Needs.{needs}
 use Rattle.page.proofs.put_panel.Statement.{statement}
 use Rattle.page.proofs.put_panel.Tie as tie
 
+-- src/lib.rt:77:1
 returns : tie.Need-returns
-unfolding panelText
-returns c =
-    c .before .before .before .before .before .before .before .before .before .before .before .before .before .before .before .before .before .before .put-place .ensures ⨾
-    c .before .before .before .before .before .before .before .before .before .before .before .before .before .before .put-older .ensures ⨾
-    c .before .before .before .before .before .before .before .before .before .before .put-chosen .ensures ⨾
-    c .before .before .before .before .before .before .put-code .ensures ⨾
-    c .before .before .put-end .ensures
+unfolding codePanel
+returns c = c .before .before .before .before .before .before .before .before .before .before .before .before .before .before .before .before .before .before .before .before .before .before .before .before .before .before .put-place .ensures ⨾ c .before .before .before .before .before .before .before .before .before .before .before .before .before .before .before .before .before .before .before .before .before .before .put-older .ensures ⨾ c .before .before .before .before .before .before .before .before .before .before .before .before .before .before .before .before .before .before .put-drawn .ensures ⨾ c .before .before .before .before .before .before .before .before .before .before .before .before .before .before .put-title .ensures ⨾ c .before .before .before .before .before .before .before .before .before .before .put-frame .ensures ⨾ c .before .before .before .before .before .before .put-dials .ensures ⨾ c .before .before .put-end .ensures
 
 pub put-panel-spec : {M : Type 1} → statement M
 put-panel-spec =
     tie.close
     (tie.spec
+    (λ c κs. search needs)
+    (λ c κs. search needs)
     (λ c κs. search needs)
     (λ c κs. search needs)
     (λ c κs. search needs)

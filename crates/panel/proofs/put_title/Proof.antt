@@ -1,16 +1,17 @@
--- `put_name` writes a code's title. Assumes nothing.
+-- `put_title` writes `titleText`. Assumes nothing.
+use Rattle.panel.specs.Pieces.{titleText}
 use Rattle.text.proofs.Writing.{_⨾_}
-use Rattle.panel.specs.Pieces.{titleText}
 use borrow.Author.Needs.{needs}
-use Rattle.page.proofs.put_name.Statement.{statement}
-use Rattle.page.proofs.put_name.Tie as tie
+use Rattle.panel.proofs.put_title.Statement.{statement}
+use Rattle.panel.proofs.put_title.Tie as tie
 
+-- src/lib.rt:74:1
 returns : tie.Need-returns
 unfolding titleText
 returns c = c .before .before .before .before .before .before .before .before .before .before .before .put .ensures ⨾ c .before .before .before .before .before .before .before .put-title .ensures ⨾ c .before .before .put2 .ensures
 
-pub put-name-spec : {M : Type 1} → statement M
-put-name-spec =
+pub put-title-spec : {M : Type 1} → statement M
+put-title-spec =
     tie.close
     (tie.spec
     (λ c. search needs)
