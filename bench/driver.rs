@@ -157,9 +157,17 @@ enum Work {
     Taps,
 }
 
+/// Fills the stack below the caller, where its callee will be, with 1.0. The inlined reference computes with what it finds there, before it knows
+/// whether it needs it, and a denormal number, as half a pointer is one, takes it ten times as long.
+#[inline(never)]
+fn fill_stack() {
+    black_box([1.0f32; 512]);
+}
+
 /// The driver's loops: every side is called from the same instructions.
 #[inline(never)]
 fn heights(height: Height, program: &Program, code: u32, positions: &[f32], out: &mut [f32], times: u32) {
+    fill_stack();
     for _ in 0..times {
         for (t, out) in positions.iter().zip(&mut *out) {
             *out = unsafe { height(program.0.as_ptr(), BLOCK, code, *t) }.height;
@@ -169,6 +177,7 @@ fn heights(height: Height, program: &Program, code: u32, positions: &[f32], out:
 
 #[inline(never)]
 fn strips(strip: Strip, program: &Program, code: u32, out: &mut [f32], times: u32) -> StripAnswer {
+    fill_stack();
     let mut last = StripAnswer { steps: Steps::uninit() };
     for _ in 0..times {
         last = unsafe { strip(program.0.as_ptr(), BLOCK, code, out.as_mut_ptr(), out.len()) };
@@ -178,6 +187,7 @@ fn strips(strip: Strip, program: &Program, code: u32, out: &mut [f32], times: u3
 
 #[inline(never)]
 fn trains(height: TapsHeight, taps: &Taps, positions: &[f32], out: &mut [f32], times: u32) {
+    fill_stack();
     for _ in 0..times {
         for (t, out) in positions.iter().zip(&mut *out) {
             *out = unsafe { height(taps.at.as_ptr(), taps.tall.as_ptr(), taps.used, *t) }.height;

@@ -1,5 +1,5 @@
 -- What the loops need; blocks whose bytes agree; that the largest difference is the largest.
-pub mod Bytes
+pub mod ByteLines
 pub mod SameBytes
 pub mod Steps
 pub mod Known

@@ -10,12 +10,8 @@ ghost use Rattle.codes.specs.Bytes.{byteAt, blockLength};
 ghost use Rattle.comparison.specs.Largest.{differenceAt, largerOf, largestOf};
 ghost use Rattle.comparison.specs.Differences.{largestText, generatorText, codeText, codesText, gateText, codeCount, codesCount, gateCount, differencesText};
 use crate::bytes::put_changes;
-use crate::bytes::put_changes;
-use crate::bytes::put_code_changes;
 use crate::bytes::put_code_changes;
 use crate::bytes::same;
-use crate::bytes::same;
-use crate::bytes::same_bytes;
 use crate::bytes::same_bytes;
 use block::BLOCK;
 use block::shape_at;
@@ -36,6 +32,9 @@ use text::put_decimal;
 
 // The number of the last sample at which two curves are held against each other.
 const LAST: u16 = 1024;
+
+// The byte of the gates.
+const GATE: [u8; 1] = [GATE_TIME as u8];
 
 // How far two curves are apart where they are farthest, and the number of the first such sample.
 pub struct Largest {
@@ -133,11 +132,11 @@ fn put_gate(out: &mut [u8], at: usize, old: &[u8], new: &[u8]) -> usize
     ensures { λ r. ⌜ Puts (now (out .entry)) at (gateText (byteAt (now (old .entry))) (byteAt (now (new .entry)))) (now (out .exit)) r ⌝ }
 {
     let titled = put_title(out, at, 14);
-    if same_bytes(old, new, &[GATE_TIME as u8]) {
+    if same_bytes(old, new, &GATE) {
         return put(out, titled, b"same\n");
     }
     let next = put(out, titled, b"different\n");
-    put_changes(out, next, old, new, &[GATE_TIME as u8])
+    put_changes(out, next, old, new, &GATE)
 }
 
 // ---- how many differ
@@ -171,7 +170,7 @@ fn count_codes(old: &[u8], new: &[u8]) -> u64
 fn count_gate(old: &[u8], new: &[u8]) -> u64
     ensures { λ r. ⌜ (r ≡ gateCount (byteAt (now (old .entry))) (byteAt (now (new .entry)))) × (r ≤ 1) ⌝ }
 {
-    if same_bytes(old, new, &[GATE_TIME as u8]) {
+    if same_bytes(old, new, &GATE) {
         return 0;
     }
     1

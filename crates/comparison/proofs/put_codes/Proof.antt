@@ -20,7 +20,7 @@ loop-holds : tie.Need-loop-holds Inv-loop μ-loop
 loop-holds c = (search needs, search needs, no-code _ _)
 
 loop-again : tie.Need-loop-again Inv-loop μ-loop
-loop-again c = (search needs, search needs, code-more _ _ _ (c .before .before .before .before .before .loop .inv .2) (c .before .before .put-code .ensures))
+loop-again c = (search needs, search needs, code-more _ _ _ (c .before .before .before .before .before .loop .inv .2) (c .before .before .put-numbered .ensures))
 
 returns : tie.Need-returns Inv-loop μ-loop
 returns c = all-codes _ _ _ _ (c .before .loop .inv .0) (c .loop-test .left) (c .before .loop .inv .2)

@@ -1,34 +1,35 @@
 -- `put_gate` puts `gateText`. Assumes nothing.
-use mathlib.Core.Path.{sym, _∙_, refl}
-use Rattle.text.proofs.Writing.{_⨾_}
 use Rattle.comparison.specs.Differences.{gateText}
+use Rattle.text.proofs.Writing.{_⨾_}
+use mathlib.Core.Path.{sym, _∙_}
 use borrow.Author.Needs.{needs}
 use Rattle.comparison.proofs.put_gate.Statement.{statement}
 use Rattle.comparison.proofs.put_gate.Tie as tie
 
+-- src/lib.rt:136:9
 returns : tie.Need-returns
 unfolding gateText
-returns c = simp (sym (c .before .before .before .before .before .before .same-bytes .ensures) ∙ c .before .before .before .before .before .if1 .taken) (c .before .before .before .before .before .before .before .before .before .before .put .ensures ⨾ c .before .before .put2 .ensures)
+returns c = simp (sym (c .before .before .before .before .before .before .same-bytes .ensures) ∙ c .before .before .before .before .before .if1 .taken) (c .before .before .before .before .before .before .before .before .before .before .put-title .ensures ⨾ c .before .before .put .ensures)
 
+-- src/lib.rt:131:1
 returns-2 : tie.Need-returns-2
 unfolding gateText
-returns-2 c = simp (sym (c .before .before .before .before .before .before .before .before .before .before .before .same-bytes .ensures) ∙ c .before .before .before .before .before .before .before .before .before .before .if1 .left) (c .before .before .before .before .before .before .before .before .before .before .before .before .before .before .before .put .ensures ⨾ (c .before .before .before .before .before .before .before .put3 .ensures ⨾ c .before .before .put-changes .ensures))
+returns-2 c = simp (sym (c .before .before .before .before .before .before .before .before .before .before .before .same-bytes .ensures) ∙ c .before .before .before .before .before .before .before .before .before .before .if1 .left) (c .before .before .before .before .before .before .before .before .before .before .before .before .before .before .before .put-title .ensures ⨾ (c .before .before .before .before .before .before .before .put2 .ensures ⨾ c .before .before .put-changes .ensures))
 
 pub put-gate-spec : {M : Type 1} → statement M
 put-gate-spec =
     tie.close
     (tie.spec
-    (λ c. refl)
     (λ c κs. search needs)
     (λ c. search needs)
     (λ c κs. search needs)
-    (λ c. refl)
+    (λ c. search needs)
     (λ c κs. search needs)
     (λ c. search needs)
     returns
-    (λ c. refl)
+    (λ c. search needs)
     (λ c κs. search needs)
-    (λ c. refl)
+    (λ c. search needs)
     (λ c κs. search needs)
     (λ c. search needs)
     returns-2)

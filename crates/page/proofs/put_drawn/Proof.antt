@@ -10,7 +10,7 @@ use Rattle.page.proofs.put_drawn.Tie as tie
 -- src/lib.rt:51:1
 returns : tie.Need-returns
 unfolding drawnText generatorOf
-returns c = 
+returns c =
     simp blank-filled
     (rw (
       c .before .before .before .before .before .before .before .before .before .before .before .before .before .before .before .before .before .before .before .scale .ensures,

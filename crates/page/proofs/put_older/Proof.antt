@@ -21,7 +21,7 @@ strip-at-requires c κs = let e = sym (c .before .before .before .before .pre) �
 -- src/lib.rt:65:1
 returns-2 : tie.Need-returns-2
 unfolding olderText
-returns-2 c = 
+returns-2 c =
     let e = sym (c .before .before .before .before .before .before .before .before .before .before .before .pre) ∙ not-false _ (c .before .before .before .before .before .before .before .before .if1 .left) in
     simp (e, blank-filled) (rw (c .before .before .before .before .before .before .strip-at .ensures .1) at (c .before .before .put-older-curve .ensures))
 

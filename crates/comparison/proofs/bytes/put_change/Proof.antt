@@ -15,7 +15,7 @@ returns-2 : tie.Need-returns-2
 unfolding changeText
 returns-2 c = simp (ne-eqb _ _ (c .before .before .before .before .before .before .before .before .before .before .before .before .before .before .before .before .before .before .before .before .before .before .before .before .before .before .before .before .before .before .before .before .if1 .left))
     (c .before .before .before .before .before .before .before .before .before .before .before .before .before .before .before .before .before .before .before .before .before .before .before .before .before .before .before .before .before .put .ensures ⨾
-    c .before .before .before .before .before .before .before .before .before .before .before .before .before .before .before .before .before .before .before .before .before .before .before .before .before .put-name .ensures ⨾
+    c .before .before .before .before .before .before .before .before .before .before .before .before .before .before .before .before .before .before .before .before .before .before .before .before .before .put-byte-name .ensures ⨾
     c .before .before .before .before .before .before .before .before .before .before .before .before .before .before .before .before .before .before .before .before .put2 .ensures ⨾
     c .before .before .before .before .before .before .before .before .before .before .before .before .before .before .before .before .put-decimal .ensures ⨾
     c .before .before .before .before .before .before .before .before .before .before .before .put3 .ensures ⨾

@@ -5,7 +5,7 @@ use lib.ListN.{length, drop}
 use Rattle.text.proofs.Writing.{Left, left-all, left-none}
 use Rattle.codes.specs.Bytes.{byteAt}
 use Rattle.comparison.specs.Changes.{changesText}
-use Rattle.comparison.proofs.Bytes.{change-put, no-change}
+use Rattle.comparison.proofs.ByteLines.{change-put, no-change}
 use borrow.Author.Needs.{needs}
 use Rattle.comparison.proofs.bytes.put_changes.Statement.{statement}
 use Rattle.comparison.proofs.bytes.put_changes.Tie as tie

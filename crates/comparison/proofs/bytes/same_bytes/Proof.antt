@@ -4,7 +4,7 @@ use Prim.Native.Nat.{_-_, _≤_}
 use lib.ListN.{length, drop}
 use Rattle.codes.specs.Bytes.{byteAt}
 use Rattle.comparison.specs.Changes.{sameBytes}
-use Rattle.comparison.proofs.Bytes.{same-more, same-not, same-all}
+use Rattle.comparison.proofs.ByteLines.{same-more, same-not, same-all}
 use borrow.Author.Needs.{needs}
 use Rattle.comparison.proofs.bytes.same_bytes.Statement.{statement}
 use Rattle.comparison.proofs.bytes.same_bytes.Tie as tie
