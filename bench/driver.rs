@@ -1,5 +1,5 @@
 //! Times the library and the unchanged reference side by side, doing the same work, or counts their instructions; and prints the tables.
-//!   driver time LAYOUT       a line for each figure and side, in seconds
+//!   driver time              a line for each figure and side, in seconds
 //!   driver count             under callgrind: a dump for each figure and side, and one for the driver's own loop
 //!   driver report FILE ..    the tables of what the other two left
 //! `run` puts them together.
@@ -25,11 +25,11 @@ const MEASURED: Duration = Duration::from_micros(100);
 
 /// The sides take turns until each has so many measurements on a quiet core, or until it has taken too long.
 const QUIET: usize = 8;
-const ENOUGH: Duration = Duration::from_millis(60);
+const ENOUGH: Duration = Duration::from_millis(30);
 
-/// A figure that has fewer quiet measurements of some side is taken up again later, so many times at most.
-const FEWEST: usize = 2;
-const PASSES: usize = 4;
+/// A figure with fewer quiet measurements of some side is taken up again later, as long as the whole has not taken too long.
+const FEWEST: usize = 3;
+const LONGEST: Duration = Duration::from_secs(40);
 
 const LENGTHS: [usize; 4] = [2, 64, 512, 4096];
 
@@ -145,9 +145,7 @@ struct Data {
     program: Program,
     taps: Taps,
     positions: [f32; SINGLE],
-    room: [f32; 8192],
-    /// Where in the room the samples begin.
-    begin: usize,
+    out: [f32; 4096],
 }
 
 #[derive(Clone, Copy)]
@@ -217,7 +215,7 @@ impl Work {
     }
 
     fn perform(self, side: &Side, data: &mut Data, times: u32) {
-        let out = &mut data.room[data.begin..][..self.samples()];
+        let out = &mut data.out[..self.samples()];
         match self {
             Work::Heights { code } => heights(side.height[code], &data.program, code as u32, &data.positions, out, times),
             Work::Strip { code, .. } => drop(strips(side.strip[code], &data.program, code as u32, out, times)),
@@ -227,13 +225,13 @@ impl Work {
 
     /// What the side computes.
     fn answers(self, side: &Side, data: &mut Data) -> Vec<u32> {
-        data.room.fill(f32::NAN);
+        data.out.fill(f32::NAN);
         self.perform(side, data, 1);
-        data.room[data.begin..][..self.samples()].iter().map(|x| x.to_bits()).collect()
+        data.out[..self.samples()].iter().map(|x| x.to_bits()).collect()
     }
 }
 
-fn data(begin: usize) -> Box<Data> {
+fn data() -> Box<Data> {
     let mut program = block(&mut Random(7), &[], &[]);
     // Both fades and levels are well inside, the waves on and swept, and the LFOs a sine without slew.
     for (at, value) in [
@@ -260,14 +258,13 @@ fn data(begin: usize) -> Box<Data> {
             used: 0,
         },
         positions: std::array::from_fn(|i| i as f32 / (SINGLE - 1) as f32),
-        room: [0.0; 8192],
-        begin,
+        out: [0.0; 4096],
     })
 }
 
 /// Every figure: its row, its work, and the data that it is done on.
-fn figures(begin: usize, mut each: impl FnMut(&str, Work, &mut Data)) {
-    let mut data = data(begin);
+fn figures(mut each: impl FnMut(&str, Work, &mut Data)) {
+    let mut data = data();
     let mut row = |name: String, code, data: &mut Data| {
         each(&name, Work::Heights { code }, data);
         LENGTHS.iter().for_each(|&n| each(&name, Work::Strip { code, n }, data));
@@ -308,13 +305,13 @@ fn seconds(work: Work, side: &Side, data: &mut Data, times: u32) -> f64 {
     start.elapsed().as_secs_f64() / f64::from(times)
 }
 
-/// How long a fixed work takes that needs the whole width of the core. Two threads of a machine may share a core, and then each is slower while
-/// the other works, but not every code by as much; the gauge says whether it was so beside a measurement.
+/// How long a fixed work takes of which many repetitions can be under way at once, as many samples of a strip can. Two threads of a machine may
+/// share a core, and while the other one works each has half the room for that: the gauge then shows nearly twice as much.
 fn gauge() -> f64 {
     let start = Instant::now();
     unsafe {
-        asm!("2:", "add {a}, 1", "add {b}, 1", "add {c}, 1", "add {d}, 1", "add {a}, 1", "add {b}, 1", "add {c}, 1", "add {d}, 1", "dec {n}", "jnz 2b",
-            a = inout(reg) 0u64 => _, b = inout(reg) 0u64 => _, c = inout(reg) 0u64 => _, d = inout(reg) 0u64 => _, n = inout(reg) 10_000u64 => _);
+        asm!("2:", "movaps {x}, {one}", ".rept 11", "divss {x}, {one}", ".endr", ".rept 160", "nop", ".endr", "dec {n}", "jnz 2b",
+            x = out(xmm_reg) _, one = in(xmm_reg) 1.0f32, n = inout(reg) 300u64 => _);
     }
     start.elapsed().as_secs_f64()
 }
@@ -346,10 +343,14 @@ impl Best {
     }
 }
 
+/// Whether every side has so many quiet measurements.
+fn quiet(best: &[Best], n: usize) -> bool {
+    best.iter().all(|best| best.quiet >= n)
+}
+
 /// Measures the sides in turn; `least` is the least that the gauge has shown so far.
 fn race(work: Work, sides: &[Side], data: &mut Data, best: &mut [Best], least: &mut f64) {
-    let few = |best: &[Best], n| best.iter().any(|best| best.quiet < n);
-    if !few(best, FEWEST) {
+    if quiet(best, FEWEST) {
         return;
     }
     let mut times = |side| {
@@ -362,7 +363,7 @@ fn race(work: Work, sides: &[Side], data: &mut Data, best: &mut [Best], least: &
     let times: Vec<u32> = sides.iter().map(&mut times).collect();
     let start = Instant::now();
     for round in 0.. {
-        if round >= FEWEST && (start.elapsed() > ENOUGH || !few(best, QUIET)) {
+        if round >= FEWEST && (start.elapsed() > ENOUGH || quiet(best, QUIET)) {
             break;
         }
         for (i, side) in sides.iter().enumerate() {
@@ -379,14 +380,14 @@ fn race(work: Work, sides: &[Side], data: &mut Data, best: &mut [Best], least: &
     }
 }
 
-fn time(layout: usize) {
+fn time() {
     let sides = sides();
-    let begin = layout * 20;
     let mut least = (0..1000).map(|_| gauge()).fold(f64::INFINITY, f64::min);
     let mut lines = Vec::new();
-    for pass in 0..PASSES {
+    let start = Instant::now();
+    for pass in 0.. {
         let mut at = 0;
-        figures(begin, |row, work, data| {
+        figures(|row, work, data| {
             if pass == 0 {
                 assert_agreed(row, work, &sides, data);
                 lines.push((format!("time\t{row}\t{}", work.length()), vec![Best::NONE; sides.len()]));
@@ -394,6 +395,9 @@ fn time(layout: usize) {
             race(work, &sides, data, &mut lines[at].1, &mut least);
             at += 1;
         });
+        if lines.iter().all(|(_, best)| quiet(best, FEWEST)) || start.elapsed() > LONGEST {
+            break;
+        }
     }
     for (line, best) in lines {
         for (side, best) in sides.iter().zip(best) {
@@ -401,27 +405,18 @@ fn time(layout: usize) {
         }
     }
     // How our strip's cost grows.
-    let mut data = data(begin);
+    let mut data = data();
     for (shape, slew) in [(0, 0), (0, 1), (0, 255), (2, SLEW), (5, SLEW)] {
         data.program.0[2] = shape as u8;
         data.program.0[6] = slew;
         for n in LENGTHS {
             let mut best = [Best::NONE];
-            (0..PASSES).for_each(|_| race(Work::Strip { code: 3, n }, &sides[..1], &mut data, &mut best, &mut least));
-            let answer = strips(sides[0].strip[3], &data.program, 3, &mut data.room[..n], 1);
+            race(Work::Strip { code: 3, n }, &sides[..1], &mut data, &mut best, &mut least);
+            let answer = strips(sides[0].strip[3], &data.program, 3, &mut data.out[..n], 1);
             let [_, steps] = unsafe { answer.steps.assume_init() };
             println!("growth\t{}, slew {slew}\t{n}\t{steps}\t{:e}\t{:e}", SHAPES[shape], best[0].time, best[0].gauge);
         }
     }
-}
-
-/// Does the work deeper on the stack, by 80 bytes or so for each level.
-#[inline(never)]
-fn deeper(levels: usize, work: &mut dyn FnMut()) {
-    let room = [levels; 5];
-    black_box(&room);
-    if levels == 0 { work() } else { deeper(levels - 1, work) }
-    black_box(&room);
 }
 
 /// A request to callgrind, as valgrind.h makes it; outside of valgrind it does nothing.
@@ -439,7 +434,7 @@ fn count() {
     const DUMP_AT: u64 = 3;
     let mut sides = sides();
     sides.push(nothing());
-    figures(0, |row, work, data| {
+    figures(|row, work, data| {
         assert_agreed(row, work, &sides[..sides.len() - 1], data);
         for side in &sides {
             let name = format!("{row}\t{}\t{}\t{}", work.length(), side.name, work.calls());
@@ -454,14 +449,9 @@ fn count() {
 pub fn run() {
     let words: Vec<String> = std::env::args().skip(1).collect();
     match (words[0].as_str(), &words[1..]) {
-        ("time", [layout]) => {
-            let layout = layout.parse().expect("the layout's number");
-            // A new thread's stack begins at the same place in a page each time; the first thread's doesn't.
-            let work = move || deeper(layout, &mut || time(layout));
-            std::thread::spawn(work).join().expect("the figures");
-        }
+        ("time", []) => time(),
         ("count", []) => count(),
         ("report", files) => report::print(files),
-        _ => panic!("time LAYOUT, count, or report FILE .."),
+        _ => panic!("time, count, or report FILE .."),
     }
 }

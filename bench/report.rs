@@ -12,7 +12,7 @@ const BY_CODE: &[&str] = &["called2", "called3", "inlined2", "inlined3"];
 const KNOWN: &[&str] = &["known2", "known3"];
 
 /// Where the gauge shows so many times the least that it has shown, something else was running on the core.
-pub const OCCUPIED: f64 = 1.12;
+pub const OCCUPIED: f64 = 1.3;
 
 /// A row's single height, of which the length is 1, or one of its strips: each side's numbers, one for each layout.
 #[derive(Default)]

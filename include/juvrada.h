@@ -15,7 +15,7 @@
  * Refusals, looked for in this order:
  *
  *   JUVRADA_BAD_BLOCK    the block is not JUVRADA_BLOCK bytes long
- *   JUVRADA_BAD_CODE     the code is above 13
+ *   JUVRADA_BAD_CODE     the code is above 13, 256 and more among them
  *   JUVRADA_BAD_STRIP    the strip, or the captions, are fewer than JUVRADA_MIN_STRIP or more than JUVRADA_MAX_STRIP
  *
  * A refused call leaves everything lent to it as it was, and the other fields of its result are 0. Otherwise `refusal` is JUVRADA_ACCEPTED.
@@ -105,23 +105,23 @@ typedef struct {
 } juvrada_anchored_result;
 
 /* The height of the curve at t, and the steps of the slew walk to it: 0 of everything but an LFO whose slew is not 0. */
-juvrada_height_result juvrada_height(const uint8_t *block, size_t block_len, uint8_t code, float t);
+juvrada_height_result juvrada_height(const uint8_t *block, size_t block_len, uint32_t code, float t);
 
 /* Heights along the whole curve: sample i is the height at i / (out_len - 1), divided as floats. `steps` is the sum of the samples' steps. */
-juvrada_strip_result juvrada_strip(const uint8_t *block, size_t block_len, uint8_t code, float *out, size_t out_len);
+juvrada_strip_result juvrada_strip(const uint8_t *block, size_t block_len, uint32_t code, float *out, size_t out_len);
 
 /* Where along the curve something happens, and what. A position may pass 1 by rounding. */
-juvrada_count_result juvrada_marks(const uint8_t *block, size_t block_len, uint8_t code, float at[JUVRADA_MAX_MARKS],
+juvrada_count_result juvrada_marks(const uint8_t *block, size_t block_len, uint32_t code, float at[JUVRADA_MAX_MARKS],
                                    uint8_t kind[JUVRADA_MAX_MARKS]);
 
 /* The height at which the curve does nothing: where a baseline is drawn. */
-juvrada_rest_result juvrada_rest(const uint8_t *block, size_t block_len, uint8_t code);
+juvrada_rest_result juvrada_rest(const uint8_t *block, size_t block_len, uint32_t code);
 
 /* What the curve's horizontal measures. */
-juvrada_scale_result juvrada_scale(const uint8_t *block, size_t block_len, uint8_t code);
+juvrada_scale_result juvrada_scale(const uint8_t *block, size_t block_len, uint32_t code);
 
 /* 1 where the left edge is a moment, as the start of a note is, and otherwise 0. */
-juvrada_anchored_result juvrada_anchored(const uint8_t *block, size_t block_len, uint8_t code);
+juvrada_anchored_result juvrada_anchored(const uint8_t *block, size_t block_len, uint32_t code);
 
 /*
  * The settings that the curve is drawn from, in this order:
@@ -137,13 +137,13 @@ juvrada_anchored_result juvrada_anchored(const uint8_t *block, size_t block_len,
  *
  * A flag is 0 or 1.
  */
-juvrada_count_result juvrada_settings(const uint8_t *block, size_t block_len, uint8_t code, float out[JUVRADA_MAX_SETTINGS]);
+juvrada_count_result juvrada_settings(const uint8_t *block, size_t block_len, uint32_t code, float out[JUVRADA_MAX_SETTINGS]);
 
 /*
  * The caption of each sample of a strip of out_len: of an envelope the segment that the sample lies in, that is, the last whose mark is at or
  * before it, sample 0 being always attack; JUVRADA_NO_CAPTION of the other codes. Returns the refusal.
  */
-uint32_t juvrada_captions(const uint8_t *block, size_t block_len, uint8_t code, uint8_t *out, size_t out_len);
+uint32_t juvrada_captions(const uint8_t *block, size_t block_len, uint32_t code, uint8_t *out, size_t out_len);
 
 /* The arpeggiator's gates, in steps of its clock: none if byte 160 is 0, otherwise four. */
 juvrada_count_result juvrada_gates(const uint8_t *block, size_t block_len, float start[JUVRADA_GATES], float end[JUVRADA_GATES]);

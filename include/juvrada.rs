@@ -54,14 +54,14 @@ pub struct AnchoredResult {
 }
 
 unsafe extern "C" {
-    pub fn juvrada_height(block: *const u8, block_len: usize, code: u8, t: f32) -> HeightResult;
-    pub fn juvrada_strip(block: *const u8, block_len: usize, code: u8, out: *mut f32, out_len: usize) -> StripResult;
-    pub fn juvrada_marks(block: *const u8, block_len: usize, code: u8, at: *mut f32, kind: *mut u8) -> CountResult;
-    pub fn juvrada_rest(block: *const u8, block_len: usize, code: u8) -> RestResult;
-    pub fn juvrada_scale(block: *const u8, block_len: usize, code: u8) -> ScaleResult;
-    pub fn juvrada_anchored(block: *const u8, block_len: usize, code: u8) -> AnchoredResult;
-    pub fn juvrada_settings(block: *const u8, block_len: usize, code: u8, out: *mut f32) -> CountResult;
-    pub fn juvrada_captions(block: *const u8, block_len: usize, code: u8, out: *mut u8, out_len: usize) -> u32;
+    pub fn juvrada_height(block: *const u8, block_len: usize, code: u32, t: f32) -> HeightResult;
+    pub fn juvrada_strip(block: *const u8, block_len: usize, code: u32, out: *mut f32, out_len: usize) -> StripResult;
+    pub fn juvrada_marks(block: *const u8, block_len: usize, code: u32, at: *mut f32, kind: *mut u8) -> CountResult;
+    pub fn juvrada_rest(block: *const u8, block_len: usize, code: u32) -> RestResult;
+    pub fn juvrada_scale(block: *const u8, block_len: usize, code: u32) -> ScaleResult;
+    pub fn juvrada_anchored(block: *const u8, block_len: usize, code: u32) -> AnchoredResult;
+    pub fn juvrada_settings(block: *const u8, block_len: usize, code: u32, out: *mut f32) -> CountResult;
+    pub fn juvrada_captions(block: *const u8, block_len: usize, code: u32, out: *mut u8, out_len: usize) -> u32;
     pub fn juvrada_gates(block: *const u8, block_len: usize, start: *mut f32, end: *mut f32) -> CountResult;
     pub fn juvrada_bars(block: *const u8, block_len: usize, start: *mut f32, end: *mut f32) -> CountResult;
     pub fn juvrada_taps_height(at: *const f32, tall: *const f32, used: u32, t: f32) -> HeightResult;

@@ -1,12 +1,12 @@
 #!/usr/bin/env python3
-"""Prints the ruler: exact heights, worked as fractions from docs/SPECIFICATION.md, sections "Settings", "The curves",
+"""Prints exact heights with their bounds, worked as fractions from docs/SPECIFICATION.md, sections "Settings", "The curves",
 "Exact series" and "Exact heights". It shares no code with the rest, and has no floating-point number.
 
     heights.py          the list, as crates/checklist/stdin keeps it
     heights.py SEED     a list whose random part is drawn otherwise; the kept one's seed is 0
 
 A line is five hexadecimal numbers, CODE BYTES POSITION LOW HIGH: the generator's code; the bytes that it reads, as one
-number, in the order of the lines G of reference/generator/list.rs; the position's bits; and the height's bounds in units
+number, in the order of `bytesOf` (crates/codes/specs/Bytes.antt); the position's bits; and the height's bounds in units
 of 2^-32. With X the exact height and q the bound of its code, LOW is (X - q) 2^32 rounded down and HIGH is
 (X + q) 2^32 rounded up, both clamped to 0..2^32. A line that starts with # is a comment.
 """
@@ -279,7 +279,7 @@ def height(code, b, t):
     if code <= 2:
         return envelope(t, *envelope_settings(*b))
     if code <= 6:
-        return lfo(t, b[0], b[2])
+        return lfo(t, b[0], b[1])
     if code <= 8:
         return fade(t, fade_end(b[0]))
     if code == 9:
@@ -296,7 +296,7 @@ def height(code, b, t):
 def bound(code, b):
     if code <= 2:
         return F(1, 131072)
-    return F(1, 4096) if code <= 6 and b[2] != 0 else F(1, 262144)
+    return F(1, 4096) if code <= 6 and b[1] != 0 else F(1, 262144)
 
 
 def position_of(bits):
@@ -380,12 +380,12 @@ def corners():
 
 def main():
     random = Random(int(sys.argv[1]) if len(sys.argv) > 1 else 0)
-    print("# The ruler: exact heights with their bounds, printed by reference/exact/heights.py, which says what a line means.")
+    print("# Exact heights with their bounds, printed by reference/exact/heights.py, which says what a line means.")
     print_group("An empty program.", [(code, [0] * n) for code, n in enumerate(COUNTS)], QUARTERS)
     print_group("Beyond the edges.", [(code, [85] * n) for code, n in enumerate(COUNTS)], ODD)
     print_group("Envelopes.", corners(), ends)
     print_group("Shapes, slew 0.", [(3 + shape % 4, [shape, 0, 0]) for shape in [*range(8), 255]], EIGHTHS)
-    slewed = [(3 + (shape + slew) % 4, [shape, 1, slew]) for slew in [1, 128, 255] for shape in range(7)]
+    slewed = [(3 + (shape + slew) % 4, [shape, slew, 1]) for slew in [1, 128, 255] for shape in range(7)]
     print_group("Shapes, slews 1, 128 and 255.", slewed, QUARTERS)
     print_group("Fades.", [(7 + b % 2, [b]) for b in [0, 1, 2, 127, 254, 255]], QUARTERS)
     print_group("Filters.", [(9, [r, pole]) for r in [0, 128, 255] for pole in [0, 1]] + [(10, [])], EIGHTHS)

@@ -127,7 +127,7 @@ impl Work<'_> {
     // ---- one comparison each
 
     fn height(&mut self, code: usize, program: &Program, generator: &Generator, t: f32) {
-        let ours = unsafe { juvrada::juvrada_height(program.0.as_ptr(), BLOCK, code as u8, t) };
+        let ours = unsafe { juvrada::juvrada_height(program.0.as_ptr(), BLOCK, code as u32, t) };
         let (theirs, steps) = (generator.at(t), steps_of(code, program, generator, t));
         if ours.refusal != 0 || !agree(ours.height, theirs) || ours.steps != steps {
             self.differ(|| {
@@ -142,7 +142,7 @@ impl Work<'_> {
 
     fn settings(&mut self, code: usize, program: &Program, generator: &Generator) {
         let mut lent = Lent::new(MAX_SETTINGS);
-        let ours = unsafe { juvrada::juvrada_settings(program.0.as_ptr(), BLOCK, code as u8, lent.pointer()) };
+        let ours = unsafe { juvrada::juvrada_settings(program.0.as_ptr(), BLOCK, code as u32, lent.pointer()) };
         let number = |setting| match setting {
             Setting::Float(x) => x,
             Setting::Number(n) => f32::from(n),
@@ -163,7 +163,7 @@ impl Work<'_> {
     fn marks(&mut self, code: usize, program: &Program, generator: &Generator) {
         let (mut at, mut kinds) = (Lent::new(MAX_MARKS), Lent::new(MAX_MARKS));
         let ours =
-            unsafe { juvrada::juvrada_marks(program.0.as_ptr(), BLOCK, code as u8, at.pointer(), kinds.pointer()) };
+            unsafe { juvrada::juvrada_marks(program.0.as_ptr(), BLOCK, code as u32, at.pointer(), kinds.pointer()) };
         let n = self.same_marks(generator, ours, &at, &kinds, || shown(code, program));
         self.count(Counted::Marks, n);
     }
@@ -191,7 +191,7 @@ impl Work<'_> {
 
     /// Rest, scale and whether it is anchored.
     fn others(&mut self, code: usize, program: &Program, generator: &Generator) {
-        let (at, byte) = (program.0.as_ptr(), code as u8);
+        let (at, byte) = (program.0.as_ptr(), code as u32);
         let rest = unsafe { juvrada::juvrada_rest(at, BLOCK, byte) };
         if rest.refusal != 0 || !agree(rest.level, generator.rest()) {
             self.differ(|| {
@@ -234,7 +234,7 @@ impl Work<'_> {
 
     fn strip(&mut self, code: usize, program: &Program, generator: &Generator, n: usize) {
         let mut lent = Lent::new(n);
-        let ours = unsafe { juvrada::juvrada_strip(program.0.as_ptr(), BLOCK, code as u8, lent.pointer(), n) };
+        let ours = unsafe { juvrada::juvrada_strip(program.0.as_ptr(), BLOCK, code as u32, lent.pointer(), n) };
         let mut steps = 0;
         for (i, &sample) in lent.first(n).iter().enumerate() {
             let t = sample_position(i, n);
@@ -261,7 +261,7 @@ impl Work<'_> {
 
     fn captions(&mut self, code: usize, program: &Program, generator: &Generator, n: usize) {
         let mut lent = Lent::new(n);
-        let refusal = unsafe { juvrada::juvrada_captions(program.0.as_ptr(), BLOCK, code as u8, lent.pointer(), n) };
+        let refusal = unsafe { juvrada::juvrada_captions(program.0.as_ptr(), BLOCK, code as u32, lent.pointer(), n) };
         let expected = |i: usize| {
             if code > 2 {
                 return 255;
@@ -356,7 +356,7 @@ impl Work<'_> {
     }
 
     /// Every function that looks at the block, with input that is refused: the refusal, zeros beside it, and everything lent as it was.
-    fn refused(&mut self, bytes: &[u8], code: u8, n: usize) {
+    fn refused(&mut self, bytes: &[u8], code: u32, n: usize) {
         let (at, len) = (bytes.as_ptr(), bytes.len());
         let block = if len != BLOCK { 1 } else { 0 };
         let curve = if block != 0 {
@@ -597,7 +597,8 @@ fn sweep(work: &mut Work, code: usize) {
 fn refusals(work: &mut Work) {
     let bytes = work.random.bytes(1000);
     for len in [0, 1, 160, 241, 242, 243, 484, 1000] {
-        for code in 0..=255 {
+        // What is no byte is refused too, and not read by its low byte.
+        for code in (0..=255).chain([256, 257, 269, 512, 0x1_0000, 0x100_0003, u32::MAX]) {
             for n in [0, 1, 2, 4096, 4097, 5000] {
                 work.refused(&bytes[..len], code, n);
             }
@@ -609,7 +610,7 @@ fn refusals(work: &mut Work) {
 fn refusal_ends(work: &mut Work) {
     let bytes = work.random.bytes(600);
     for len in 0..=600 {
-        work.refused(&bytes[..len], (len % 20) as u8, 100);
+        work.refused(&bytes[..len], (len % 20) as u32, 100);
     }
     for n in (0..=20).chain(4080..=4200) {
         for code in 0..14 {

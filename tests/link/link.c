@@ -31,6 +31,11 @@ static void heights(void) {
     EXPECT(r.refusal == JUVRADA_BAD_BLOCK && r.steps == 0 && r.height == 0.0f);
     r = juvrada_height(block, sizeof block, 14, 0.0f);
     EXPECT(r.refusal == JUVRADA_BAD_CODE && r.steps == 0 && r.height == 0.0f);
+    /* A code that is no byte is not read as its low byte. */
+    r = juvrada_height(block, sizeof block, 256, 0.0f);
+    EXPECT(r.refusal == JUVRADA_BAD_CODE && r.steps == 0 && r.height == 0.0f);
+    r = juvrada_height(block, sizeof block, UINT32_MAX, 0.0f);
+    EXPECT(r.refusal == JUVRADA_BAD_CODE && r.steps == 0 && r.height == 0.0f);
 }
 
 static void strips(void) {

@@ -8,7 +8,7 @@ mod juvrada;
 fn main() {
     // The empty program.
     let mut block = [0u8; BLOCK];
-    let code = |block: &[u8; BLOCK], code: u8, t: f32| unsafe { juvrada_height(block.as_ptr(), BLOCK, code, t) };
+    let code = |block: &[u8; BLOCK], code: u32, t: f32| unsafe { juvrada_height(block.as_ptr(), BLOCK, code, t) };
 
     let r = code(&block, 7, f32::NAN);
     assert_eq!((r.refusal, r.steps, r.height), (0, 0, 1.0));
@@ -18,8 +18,10 @@ fn main() {
     assert_eq!((r.refusal, r.steps), (0, 672));
     block[2] = 0;
     block[6] = 0;
-    let r = code(&block, 14, 1.0);
-    assert_eq!((r.refusal, r.steps, r.height), (2, 0, 0.0));
+    for number in [14, 255, 256, 269, u32::MAX] {
+        let r = code(&block, number, 1.0);
+        assert_eq!((r.refusal, r.steps, r.height), (2, 0, 0.0));
+    }
 
     // A triangle.
     block[2] = 1;

@@ -1,4 +1,4 @@
-// Row 3: both edges of the paper. Heights that are known beforehand, and positions beyond the edges.
+// Row 3: both edges. Heights that are known beforehand, and positions beyond the edges.
 use crate::draw;
 use crate::row::Input;
 use crate::row::Row;

@@ -1,4 +1,4 @@
-// Row 5: ruler against formula. Each line of the list has a height's input and its bounds, in units of 2^-32: reference/exact/heights.py says how
+// Row 5: exact heights. Each line of the list has a height's input and its bounds, in units of 2^-32: reference/exact/heights.py says how
 // they are made. The bounds are rounded outward to whole units, so a height may lie up to 2^-32 further from its exact height than its
 // code's bound; the comparison itself rounds nothing.
 use crate::draw;
@@ -137,7 +137,7 @@ impl Reading {
 }
 
 // A last line with no end is a line too.
-pub fn ruler_row(list: &[u8]) -> Row {
+pub fn exact_row(list: &[u8]) -> Row {
     let mut state = Reading::start();
     let mut i = 0;
     while i < list.len() {

@@ -22,13 +22,13 @@ fn room() -> [u8; 262144]
 }
 
 // A list that does not fit fails, as a row that tried nothing.
-fn ruler_row() -> Row {
+fn exact_row() -> Row {
     let mut text = room();
     let n = io::read_full(STDIN_FILENO, &mut text);
     if n == 262144 {
         return Row::start();
     }
-    list::ruler_row(&text[..n])
+    list::exact_row(&text[..n])
 }
 
 fn main() {
@@ -43,6 +43,6 @@ fn main() {
         edges::beyond(edges::known(Row::start())),
     );
     let slews = report::print_row(b"slew at 1 and at 255     ", slew::both_slews());
-    let ruler = report::print_row(b"ruler against formula    ", ruler_row());
-    report::print_verdict(empty % 2 + shapes % 2 + edges % 2 + slews % 2 + ruler % 2);
+    let exact = report::print_row(b"ruler against formula    ", exact_row());
+    report::print_verdict(empty % 2 + shapes % 2 + edges % 2 + slews % 2 + exact % 2);
 }

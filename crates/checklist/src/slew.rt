@@ -1,9 +1,9 @@
-// Row 4: slew at 1 and at 255. The steps of LFO 1's walk, which has 96 to a turn, and a turn before the paper's left edge.
+// Row 4: slew at 1 and at 255. The steps of LFO 1's walk, which has 96 to a turn, and a turn before the left edge.
 ghost use Prim.Native.Nat.{_<_};
 use crate::draw;
 use crate::row::Row;
 
-// The steps to part i of 64 of the paper, rounded up: 96 for each of six turns, or for one.
+// The steps to part i of 64, rounded up: 96 for each of six turns, or for one.
 fn needed(i: u16, six: bool) -> u64
     ensures { λ r. ⌜ r < 1000000 ⌝ }
 {

@@ -61,7 +61,7 @@ fn print_rows(heights: &[f32]) {
 }
 
 // A strip of n samples, in the first n places of `heights`.
-fn print_strip(block: &[u8], code: u8, heights: &mut [f32], n: usize)
+fn print_strip(block: &[u8], code: u32, heights: &mut [f32], n: usize)
     requires { ⌜ n ≤ length (now heights) ⌝ }
 {
     let answer = api::strip(block, code, &mut heights[..n]);
@@ -72,7 +72,7 @@ fn print_strip(block: &[u8], code: u8, heights: &mut [f32], n: usize)
 }
 
 fn main() {
-    let code = argument(1, 255) as u8;
+    let code = argument(1, 255) as u32;
     let n = argument(2, 4097) as usize;
     let mut block = [0u8; 243];
     let got = io::read_full(STDIN_FILENO, &mut block);

@@ -3,11 +3,12 @@ use curve::Height;
 use float_bits::flag;
 use float_bits::word_of;
 use generator::Generator;
-use generator::MarkKind;
 use generator::Marks;
 use generator::Scale;
-use generator::Segment;
 use generator::Shape;
+use generator::kind_number;
+use generator::scale_number;
+use generator::scale_value;
 use settings::Envelope;
 use settings::Filter;
 use settings::Lfo;
@@ -128,26 +129,6 @@ pub fn height(h: Height, i: u32) -> Answer {
 }
 
 // ---- marks
-fn segment_number(segment: Segment) -> u32 {
-    match segment {
-        Segment::Attack => 0,
-        Segment::Decay => 1,
-        Segment::Sustain => 2,
-        Segment::Release => 3,
-    }
-}
-
-fn kind_number(kind: MarkKind) -> u32 {
-    match kind {
-        MarkKind::Segment(s) => segment_number(s),
-        MarkKind::Corner => 4,
-        MarkKind::Cycle => 5,
-        MarkKind::Tap => 6,
-        MarkKind::Width => 7,
-        MarkKind::Sweep => 8,
-    }
-}
-
 pub fn mark_count(marks: Marks) -> Answer {
     Answer::Word((marks.count % 256) as u32)
 }
@@ -165,25 +146,17 @@ pub fn mark_kind(marks: Marks, i: u32) -> Answer {
     if n < marks.count && n < generator::MAX_MARKS {
         let mark = marks.places[n];
         let kind = mark.kind;
-        return Answer::Word(kind_number(kind));
+        return Answer::Word(kind_number(kind) as u32);
     }
     Answer::Nothing
 }
 
 // ---- scale
-fn scale_word(i: u32, kind: u32, number: f32) -> Answer {
-    match i {
-        0 => Answer::Word(kind),
-        1 => of_float(number),
-        _ => Answer::Nothing,
-    }
-}
-
 pub fn scale(scale: Scale, i: u32) -> Answer {
-    match scale {
-        Scale::Normalised => scale_word(i, 0, 0.0),
-        Scale::Turns(turns) => scale_word(i, 1, turns),
-        Scale::Octaves(octaves) => scale_word(i, 2, octaves),
+    match i {
+        0 => Answer::Word(scale_number(scale)),
+        1 => of_float(scale_value(scale)),
+        _ => Answer::Nothing,
     }
 }
 

@@ -3,7 +3,7 @@
 // the numbers of what is refused and of what is not.
 mod answer;
 mod build;
-mod refusals;
+mod limits;
 mod replay;
 mod report;
 
@@ -26,6 +26,6 @@ fn main() {
         io::write_all(STDOUT_FILENO, b"the list is too long\n");
         return;
     }
-    refusals::print_refusals();
+    limits::print_refusals();
     report::print_tally(replay::replay(&text[..n]));
 }

@@ -6,14 +6,14 @@ use libc::STDIN_FILENO;
 use libc::STDOUT_FILENO;
 
 // Room for the page, which has some 90,000 bytes, or 170,000 with the older curves. The contract gives its length only, which lending it as a slice asks for.
-fn room() -> [u8; 262144]
+fn buffer() -> [u8; 262144]
     ensures { λ r. ⌜ 262144 ≡ length r ⌝ }
 {
     [0; 262144]
 }
 
 // Where the page of a block, or of two, ends; 0 where there is none.
-fn draw(blocks: &[u8], text: &mut [u8]) -> usize
+fn write_page(blocks: &[u8], text: &mut [u8]) -> usize
     ensures { λ _. ⌜ length (now (text .exit)) ≡ length (now (text .entry)) ⌝ }
 {
     if blocks.len() == 2 * BLOCK {
@@ -25,8 +25,8 @@ fn draw(blocks: &[u8], text: &mut [u8]) -> usize
 fn main() {
     let mut blocks = [0u8; 485];
     let n = io::read_full(STDIN_FILENO, &mut blocks);
-    let mut text = room();
-    let end = draw(&blocks[..n], &mut text);
+    let mut text = buffer();
+    let end = write_page(&blocks[..n], &mut text);
     if end == 0 {
         io::write_all(STDOUT_FILENO, b"a block has 242 bytes\n");
         return;

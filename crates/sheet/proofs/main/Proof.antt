@@ -8,9 +8,9 @@ use Rattle.sheet.proofs.main.Tie as tie
 
 slice-aggregate-write-all-2 : tie.Need-slice-aggregate-write-all-2
 slice-aggregate-write-all-2 c =
-    let n = c .before .before .before .before .draw .result in
-    let text = c .before .before .before .before .draw .last .1 .0 in
-    let fits : n ≤ length text = omega (arith, c .before .before .before .before .draw .ensures) in
+    let n = c .before .before .before .before .write-page .result in
+    let text = c .before .before .before .before .write-page .last .1 .0 in
+    let fits : n ≤ length text = omega (arith, c .before .before .before .before .write-page .ensures) in
     simp length-take (omega arith)
 
 pub main-spec : {M : Type 1} → statement M

@@ -2,8 +2,8 @@
 use native.Mathlib.Omega.{arith}
 use lib.ListN.{length-take}
 use borrow.Author.Needs.{needs}
-use Rattle.replay.proofs.refusals.print_strip.Statement.{statement}
-use Rattle.replay.proofs.refusals.print_strip.Tie as tie
+use Rattle.replay.proofs.limits.print_strip.Statement.{statement}
+use Rattle.replay.proofs.limits.print_strip.Tie as tie
 
 slice-aggregate-strip : tie.Need-slice-aggregate-strip
 slice-aggregate-strip c = simp length-take (omega arith)

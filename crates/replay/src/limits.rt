@@ -20,7 +20,7 @@ fn of_strip(answer: StripAnswer) -> u32 {
 }
 
 // The refusal of a block of the first n bytes, and of a code.
-fn print_block(label: &[u8], bytes: &[u8], n: usize, code: u8) {
+fn print_block(label: &[u8], bytes: &[u8], n: usize, code: u32) {
     if n <= bytes.len() {
         report::print_count(label, of_height(api::height(&bytes[..n], code, 0.0)));
     }

@@ -2,8 +2,8 @@
 use native.Mathlib.Omega.{arith}
 use lib.ListN.{length-take}
 use borrow.Author.Needs.{needs}
-use Rattle.replay.proofs.refusals.print_block.Statement.{statement}
-use Rattle.replay.proofs.refusals.print_block.Tie as tie
+use Rattle.replay.proofs.limits.print_block.Statement.{statement}
+use Rattle.replay.proofs.limits.print_block.Tie as tie
 
 slice-aggregate-height : tie.Need-slice-aggregate-height
 slice-aggregate-height c = simp length-take (omega arith)
