@@ -25,7 +25,10 @@ const MEASURED: Duration = Duration::from_micros(100);
 
 /// The sides take turns until each has so many measurements on a quiet core, or until it has taken too long.
 const QUIET: usize = 8;
-const ENOUGH: Duration = Duration::from_millis(30);
+const ENOUGH: Duration = Duration::from_millis(60);
+
+/// How long a measurement waits for a quiet core at most.
+const PATIENCE: Duration = Duration::from_millis(3);
 
 /// A figure with fewer quiet measurements of some side is taken up again later, as long as the whole has not taken too long.
 const FEWEST: usize = 3;
@@ -316,6 +319,18 @@ fn gauge() -> f64 {
     start.elapsed().as_secs_f64()
 }
 
+/// Waits for a quiet core, but not for long; `least` is the least that the gauge has shown.
+fn wait(least: &mut f64) -> f64 {
+    let start = Instant::now();
+    loop {
+        let gauge = gauge();
+        *least = least.min(gauge);
+        if gauge <= *least * report::OCCUPIED || start.elapsed() > PATIENCE {
+            return gauge;
+        }
+    }
+}
+
 /// The best measurement of a side, quiet ones before others: seconds for a call, and the gauge beside it; and how many were quiet.
 #[derive(Clone, Copy)]
 struct Best {
@@ -341,6 +356,12 @@ impl Best {
             (self.time, self.gauge) = (time, gauge);
         }
     }
+
+    /// The gauge is left out where too few were quiet.
+    fn text(&self) -> String {
+        let gauge = if self.quiet < FEWEST { f64::INFINITY } else { self.gauge };
+        format!("{:e}\t{gauge:e}", self.time)
+    }
 }
 
 /// Whether every side has so many quiet measurements.
@@ -348,7 +369,7 @@ fn quiet(best: &[Best], n: usize) -> bool {
     best.iter().all(|best| best.quiet >= n)
 }
 
-/// Measures the sides in turn; `least` is the least that the gauge has shown so far.
+/// Measures the sides in turn.
 fn race(work: Work, sides: &[Side], data: &mut Data, best: &mut [Best], least: &mut f64) {
     if quiet(best, FEWEST) {
         return;
@@ -371,10 +392,9 @@ fn race(work: Work, sides: &[Side], data: &mut Data, best: &mut [Best], least: &
             if times[i] > 1 {
                 work.perform(side, data, 1);
             }
-            let before = gauge();
+            let before = wait(least);
             let time = seconds(work, side, data, times[i]) / work.calls() as f64;
             let after = gauge();
-            *least = least.min(before).min(after);
             best[i].add(time, before.max(after), *least);
         }
     }
@@ -401,7 +421,7 @@ fn time() {
     }
     for (line, best) in lines {
         for (side, best) in sides.iter().zip(best) {
-            println!("{line}\t{}\t{:e}\t{:e}", side.name, best.time, best.gauge);
+            println!("{line}\t{}\t{}", side.name, best.text());
         }
     }
     // How our strip's cost grows.
@@ -414,7 +434,7 @@ fn time() {
             race(Work::Strip { code: 3, n }, &sides[..1], &mut data, &mut best, &mut least);
             let answer = strips(sides[0].strip[3], &data.program, 3, &mut data.out[..n], 1);
             let [_, steps] = unsafe { answer.steps.assume_init() };
-            println!("growth\t{}, slew {slew}\t{n}\t{steps}\t{:e}\t{:e}", SHAPES[shape], best[0].time, best[0].gauge);
+            println!("growth\t{}, slew {slew}\t{n}\t{steps}\t{}", SHAPES[shape], best[0].text());
         }
     }
 }

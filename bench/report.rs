@@ -70,7 +70,7 @@ impl Figure {
     /// Leaves out the layouts in which some side was never measured on a quiet core, unless it was so in all.
     fn keep_quiet(&mut self, least: f64) {
         let layouts = self.gauges.values().map(Vec::len).min().unwrap_or(0);
-        let is_quiet = |layout: usize| self.gauges.values().all(|gauge| gauge[layout] <= least * OCCUPIED);
+        let is_quiet = |layout: usize| self.gauges.values().all(|gauge| gauge[layout] < least * OCCUPIED);
         let quiet: Vec<usize> = (0..layouts).filter(|&layout| is_quiet(layout)).collect();
         self.occupied = quiet.is_empty();
         if !self.occupied {

@@ -4,9 +4,6 @@ use borrow.Author.Needs.{needs}
 use Rattle.settings.proofs.byte.Statement.{statement}
 use Rattle.settings.proofs.byte.Tie as tie
 
-returns : tie.Need-returns
-unfolding byteOf
-returns c = simp (c .from-u16 .ensures)
-
 pub byte-spec : {M : Type 1} → statement M
-byte-spec = tie.close (tie.spec (λ c κs. search needs) returns)
+unfolding byteOf
+byte-spec = tie.close (tie.spec (λ c κs. search needs) (λ c. simp (c .from-u16 .ensures)))

@@ -4,9 +4,6 @@ use Rattle.settings.specs.Settings.{highPassOf}
 use Rattle.settings.proofs.high_pass.Statement.{statement}
 use Rattle.settings.proofs.high_pass.Tie as tie
 
-returns : tie.Need-returns
-unfolding highPassOf
-returns c = refl
-
 pub high-pass-spec : {M : Type 1} → statement M
-high-pass-spec = tie.close (tie.spec returns)
+unfolding highPassOf
+high-pass-spec = tie.close (tie.spec (λ c. refl))

@@ -4,9 +4,6 @@ use borrow.Author.Needs.{needs}
 use Rattle.settings.proofs.low_pass_from.Statement.{statement}
 use Rattle.settings.proofs.low_pass_from.Tie as tie
 
-returns : tie.Need-returns
-unfolding lowPassOf
-returns c = simp (c .byte .ensures, c .before .low-pass-slope .ensures)
-
 pub low-pass-from-spec : {M : Type 1} → statement M
-low-pass-from-spec = tie.close (tie.spec (λ c κs. search needs) (λ c κs. search needs) returns)
+unfolding lowPassOf
+low-pass-from-spec = tie.close (tie.spec (λ c κs. search needs) (λ c κs. search needs) (λ c. simp (c .byte .ensures, c .before .low-pass-slope .ensures)))

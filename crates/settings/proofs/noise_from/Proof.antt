@@ -4,9 +4,6 @@ use borrow.Author.Needs.{needs}
 use Rattle.settings.proofs.noise_from.Statement.{statement}
 use Rattle.settings.proofs.noise_from.Tie as tie
 
-returns : tie.Need-returns
-unfolding noiseOf
-returns c = simp (c .byte .ensures)
-
 pub noise-from-spec : {M : Type 1} → statement M
-noise-from-spec = tie.close (tie.spec (λ c κs. search needs) returns)
+unfolding noiseOf
+noise-from-spec = tie.close (tie.spec (λ c κs. search needs) (λ c. simp (c .byte .ensures)))
