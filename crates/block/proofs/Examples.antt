@@ -122,7 +122,7 @@ holds : ℕ × List (ℕ × ℕ) × List ℕ → Bool
 holds r = same (chosenWords (codeOf (r .0)) (reading (r .1))) (r .2)
 
 settings-agree : T (allPass holds settingsRows)
-unfolding allPass holds settingsRows same reading chosenWords words word flag shapeNumber passNumber codes codeIn shapeOf envelopeAt lfoAt oscillatorAt byteOf totalOf firstOf secondOf thirdOf slopeOf sloped sustainEndOf bendOf envelopeOf shape.lfoShapeOf turnsOf lfoOf fadeOf poleSlopeOf lowPassOf highPassOf depthOf widthOf sweepOf oscillatorOneOf oscillatorTwoOf noiseOf toBits ofBits ofInt exp2Of exp2Within exp2Coefficients clampOf lt horner fractOf floorOf exp2Scale value add sub mul div
+unfolding allPass holds settingsRows same reading chosenWords words word flag shapeNumber passNumber codes codeIn shapeOf envelopeAt lfoAt oscillatorAt byteOf totalOf firstOf secondOf thirdOf slopeOf sloped sustainEndOf bendOf envelopeOf shape.lfoShapeOf lfoOf fadeOf poleSlopeOf lowPassOf highPassOf depthOf widthOf sweepOf oscillatorOneOf oscillatorTwoOf noiseOf toBits ofBits ofInt exp2Of exp2Within exp2Coefficients clampOf lt horner fractOf floorOf exp2Scale value add sub mul div
 settings-agree = tt
 
 -- ---- the bytes lie in the block

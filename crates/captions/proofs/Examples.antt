@@ -39,5 +39,5 @@ rows =
     ∷ []
 
 captions-known : T (allPass captioned rows)
-unfolding allPass captioned same rows captionsOf captionAt captionOf lastSegment segmentFrom startedBy envelopeMarks samplePosition written envelopeOf thirdOf secondOf firstOf totalOf byteOf ofBits ofInt add div lt le eq
+unfolding allPass captioned same rows captionsOf captionOf lastSegment segmentFrom startedBy envelopeMarks samplePosition written envelopeOf thirdOf secondOf firstOf totalOf byteOf ofBits ofInt add div lt le eq
 captions-known = tt

@@ -29,9 +29,8 @@ unfolding captionsOf
 captions-at s xs h k i l = simp (fits-between (length xs) h k) (written-at (captionAt s (length xs)) noCaption (length xs) xs i (omega arith) l)
 
 pub first-is-attack : (e : Envelope) (n : ℕ) → captionAt (AnEnvelope e) n 0 ≡ 0
-unfolding captionAt captionOf
+unfolding captionOf
 first-is-attack e n = refl
 
 pub fade-has-none : (f : Fade) (n i : ℕ) → captionAt (AFade f) n i ≡ 255
-unfolding captionAt
 fade-has-none f n i = refl

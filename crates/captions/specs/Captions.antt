@@ -44,7 +44,7 @@ abbrev pub noCaption : ℕ
 noCaption = 255
 
 -- Sample i of n of a shape: an envelope's by its marks; no other shape has captions, a fade's marks notwithstanding.
-unfoldable pub captionAt : Shape → ℕ → ℕ → ℕ
+abbrev pub captionAt : Shape → ℕ → ℕ → ℕ
 captionAt (AnEnvelope e) n i = captionOf (envelopeMarks e) n i
 captionAt (AFade f) n i = noCaption
 captionAt (AnLfo l) n i = noCaption

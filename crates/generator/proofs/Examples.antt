@@ -57,7 +57,7 @@ markRows =
     ∷ []
 
 marks-agree : T (allPass hasMarks markRows)
-unfolding allPass hasMarks same storedPairs markPairs markRows marksOf markList stored padded countOf envelopeMarks fadeMarks cyclesFrom cyclesOf sweepMarks pulseMarks oscillatorMarks byteOf totalOf firstOf secondOf thirdOf envelopeOf lfoShapeOf turnsOf lfoOf fadeOf lowPassOf highPassOf depthOf widthOf sweepOf oscillatorOneOf oscillatorTwoOf noiseOf toBits ofBits ofInt add sub mul div lt
+unfolding allPass hasMarks same storedPairs markPairs markRows marksOf markList stored padded countOf envelopeMarks fadeMarks cyclesFrom cyclesOf sweepMarks pulseMarks oscillatorMarks byteOf totalOf firstOf secondOf thirdOf envelopeOf lfoShapeOf lfoOf fadeOf lowPassOf highPassOf depthOf widthOf sweepOf oscillatorOneOf oscillatorTwoOf noiseOf toBits ofBits ofInt add sub mul div lt
 marks-agree = tt
 
 -- ---- the marks of an LFO of any turns, the row's bits: NaN, infinities, zeros, subnormal, just below 1 and 6, more than are stored, huge, negative
@@ -111,7 +111,7 @@ sayRows =
     ∷ []
 
 says-agree : T (allPass says sayRows)
-unfolding allPass says same saysOf sayRows filterUnity lfoShapeOf turnsOf lfoOf lowPassOf highPassOf toBits ofBits mul div
+unfolding allPass says same saysOf sayRows filterUnity lfoShapeOf lfoOf lowPassOf highPassOf toBits ofBits mul div
 says-agree = tt
 
 -- ---- gates: the bits of a start and of an end

@@ -55,7 +55,7 @@ known : Float × ℕ → Bool
 known r = eqb (toBits binary32 (r .0)) (r .1)
 
 heights-known : T (allPass known rows)
-unfolding allPass known rows unslewed held silent toBits ofBits ofInt toUnsigned isNan lt le neg add sub mul div value horner clampOf floorOf fractOf exp2Scale exp2Coefficients exp2Within exp2Of positionOf drawnOf byteOf totalOf firstOf secondOf thirdOf slopeOf sloped sustainEndOf bendOf envelopeOf turnsOf fadeOf depthOf widthOf sweepOf oscillatorOneOf oscillatorTwoOf divideOf denominatorOf bentUnit bentOf attackOf decayOf sustainOf releaseOf envelopeLevelOf envelopeHeightOf fadeLevelOf fadeHeightOf sawOf pulseOf addedOf sumOf wavesOf oscillatorLevelOf oscillatorHeightOf wrapOf samples sampleOf indexOf sampledOf triangleOf squareOf rampUpOf glideOf shapeAtOf
+unfolding allPass known rows unslewed held silent toBits ofBits ofInt toUnsigned isNan lt le neg add sub mul div value horner clampOf floorOf fractOf exp2Scale exp2Coefficients exp2Within exp2Of positionOf drawnOf byteOf totalOf firstOf secondOf thirdOf slopeOf sloped sustainEndOf bendOf envelopeOf fadeOf depthOf widthOf sweepOf oscillatorOneOf oscillatorTwoOf divideOf denominatorOf bentUnit bentOf attackOf decayOf sustainOf releaseOf envelopeLevelOf envelopeHeightOf fadeLevelOf fadeHeightOf sawOf pulseOf addedOf sumOf wavesOf oscillatorLevelOf oscillatorHeightOf wrapOf samples sampleOf indexOf sampledOf triangleOf squareOf rampUpOf glideOf shapeAtOf
 heights-known = tt
 
 -- ---- steps, at slew byte 1: of the LFO of a shape's byte at a position
@@ -71,5 +71,5 @@ counted : ℕ × ℕ → Bool
 counted r = eqb (r .0) (r .1)
 
 steps-known : T (allPass counted stepRows)
-unfolding allPass counted stepRows stepsAt lfoHeightOf walkedOf fullSteps fullFrom placeOf stepOf positionOf clampOf lfoOf lfoShapeOf turnsOf byteOf ofBits ofInt isNan lt le neg add mul div
+unfolding allPass counted stepRows stepsAt lfoHeightOf walkedOf fullSteps fullFrom placeOf stepOf positionOf clampOf lfoOf lfoShapeOf byteOf ofBits ofInt isNan lt le neg add mul div
 steps-known = tt

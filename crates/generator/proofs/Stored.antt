@@ -1,6 +1,6 @@
 -- A RECORD OF MARKS HOLDS THE FIRST SIX OF A LIST: a push appends to the list, and at most six are counted. Assumes nothing.
 use mathlib.Core.Path.{_≡_, refl, ap, _∙_}
-use mathlib.Core.List.{List, [], _∷_, _++_}
+use mathlib.Core.List.{List, [], _∷_, _++_, append-nil, append-assoc}
 use mathlib.Core.Bool.{true, false}
 use Prim.Native.Nat.{ℕ, zero, suc, _+_, _-_, _≤_, _<_}
 use native.Mathlib.Numerals.{add-one}
@@ -26,19 +26,11 @@ pushed-stored (a ∷ b ∷ c ∷ d ∷ e ∷ f ∷ ks) k = refl
 pub push-more : (ks : List Mark) (k : Mark) {m r : Marks} → m ≡ stored ks → r ≡ pushed m k → r ≡ stored (ks ++ (k ∷ []))
 push-more ks k e h = h ∙ (ap (λ (z : Marks). pushed z k) e ∙ pushed-stored ks k)
 
-append-cons : (ks : List Mark) (l : Mark) (ls : List Mark) → (ks ++ (l ∷ [])) ++ ls ≡ ks ++ (l ∷ ls)
-append-cons [] l ls = refl
-append-cons (k ∷ ks) l ls = ap (λ (z : List Mark). k ∷ z) (append-cons ks l ls)
-
 -- A list is pushed by appending it.
 pub pushed-all-stored : (ks ls : List Mark) → pushedAll (stored ks) ls ≡ stored (ks ++ ls)
 unfolding pushedAll
-pushed-all-stored ks [] = ap stored (append-nil ks)
-  where
-    append-nil : (ks : List Mark) → ks ≡ ks ++ []
-    append-nil [] = refl
-    append-nil (k ∷ ks) = ap (λ (z : List Mark). k ∷ z) (append-nil ks)
-pushed-all-stored ks (l ∷ ls) = ap (λ (m : Marks). pushedAll m ls) (pushed-stored ks l) ∙ (pushed-all-stored (ks ++ (l ∷ [])) ls ∙ ap stored (append-cons ks l ls))
+pushed-all-stored ks [] = rw append-nil
+pushed-all-stored ks (l ∷ ls) = ap (λ (m : Marks). pushedAll m ls) (pushed-stored ks l) ∙ (pushed-all-stored (ks ++ (l ∷ [])) ls ∙ ap stored (append-assoc ks (l ∷ []) ls))
 
 pub push-list : (ks ls : List Mark) {m r : Marks} → m ≡ stored ks → r ≡ pushedAll m ls → r ≡ stored (ks ++ ls)
 push-list ks ls e h = h ∙ (ap (λ (z : Marks). pushedAll z ls) e ∙ pushed-all-stored ks ls)

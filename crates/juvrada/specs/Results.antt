@@ -36,27 +36,27 @@ use Rattle.juvrada.specs.declared.RestResult.{RestResult}
 use Rattle.juvrada.specs.declared.ScaleResult.{ScaleResult}
 use Rattle.juvrada.specs.declared.AnchoredResult.{AnchoredResult}
 
-unfoldable pub answerNumber : Answer → ℕ
+abbrev pub answerNumber : Answer → ℕ
 answerNumber Accepted = 0
 answerNumber (Refused why) = refusalNumber why
 
-unfoldable pub heightResult : HeightAnswer → HeightResult
+abbrev pub heightResult : HeightAnswer → HeightResult
 heightResult (AHeight h) = record { refusal = 0; steps = h .steps; height = h .height }
 heightResult (NoHeight why) = record { refusal = refusalNumber why; steps = 0; height = zero₃₂ }
 
-unfoldable pub stripResult : StripAnswer → StripResult
+abbrev pub stripResult : StripAnswer → StripResult
 stripResult (Filled n) = record { refusal = 0; steps = n }
 stripResult (NoStrip why) = record { refusal = refusalNumber why; steps = 0 }
 
-unfoldable pub restResult : RestAnswer → RestResult
+abbrev pub restResult : RestAnswer → RestResult
 restResult (Rest x) = record { refusal = 0; level = x }
 restResult (NoRest why) = record { refusal = refusalNumber why; level = zero₃₂ }
 
-unfoldable pub scaleResult : ScaleAnswer → ScaleResult
+abbrev pub scaleResult : ScaleAnswer → ScaleResult
 scaleResult (AScale s) = record { refusal = 0; kind = scaleNumber s; number = scaleValue s }
 scaleResult (NoScale why) = record { refusal = refusalNumber why; kind = 0; number = zero₃₂ }
 
-unfoldable pub anchoredResult : AnchoredAnswer → AnchoredResult
+abbrev pub anchoredResult : AnchoredAnswer → AnchoredResult
 anchoredResult (Anchored b) = record { refusal = 0; anchored = cond b 1 0 }
 anchoredResult (NoAnchor why) = record { refusal = refusalNumber why; anchored = 0 }
 

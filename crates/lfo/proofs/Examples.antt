@@ -17,13 +17,13 @@ gives shape slew t h k = let r = lfoHeightOf (lfoOf shape slew 0 false) (bits t)
 
 -- a square at 0, and at 0.25 with the most slew; a held sample at 0
 square-at-zero : T (gives 2 77 0x0000_0000 0x3d8d_4c54 96)
-unfolding gives lfoHeightOf walkedOf fullSteps fullFrom cutAfter levelAfter movedOf limitOf placeOf stepOf shapeAtOf squareOf wrapOf lfoOf turnsOf lfoShapeOf byteOf positionOf drawnOf minOf clampOf floorOf fractOf value ofBits toBits ofInt neg add sub mul div lt le eq isNan
+unfolding gives lfoHeightOf walkedOf fullSteps fullFrom cutAfter levelAfter movedOf limitOf placeOf stepOf shapeAtOf squareOf wrapOf lfoOf lfoShapeOf byteOf positionOf drawnOf minOf clampOf floorOf fractOf value ofBits toBits ofInt neg add sub mul div lt le eq isNan
 square-at-zero = tt
 
 square-at-quarter : T (gives 2 255 0x3e80_0000 0x3f05_5554 120)
-unfolding gives lfoHeightOf walkedOf fullSteps fullFrom cutAfter levelAfter movedOf limitOf placeOf stepOf shapeAtOf squareOf wrapOf lfoOf turnsOf lfoShapeOf byteOf positionOf drawnOf minOf clampOf floorOf fractOf value ofBits toBits ofInt neg add sub mul div lt le eq isNan
+unfolding gives lfoHeightOf walkedOf fullSteps fullFrom cutAfter levelAfter movedOf limitOf placeOf stepOf shapeAtOf squareOf wrapOf lfoOf lfoShapeOf byteOf positionOf drawnOf minOf clampOf floorOf fractOf value ofBits toBits ofInt neg add sub mul div lt le eq isNan
 square-at-quarter = tt
 
 sample-at-zero : T (gives 5 255 0x0000_0000 0x3f56_d3a2 96)
-unfolding gives lfoHeightOf walkedOf fullSteps fullFrom cutAfter levelAfter movedOf limitOf placeOf stepOf shapeAtOf sampledOf indexOf sampleOf samples lfoOf turnsOf lfoShapeOf byteOf positionOf drawnOf minOf clampOf floorOf fractOf value ofBits toBits ofInt neg add sub mul div lt le eq isNan toUnsigned
+unfolding gives lfoHeightOf walkedOf fullSteps fullFrom cutAfter levelAfter movedOf limitOf placeOf stepOf shapeAtOf sampledOf indexOf sampleOf samples lfoOf lfoShapeOf byteOf positionOf drawnOf minOf clampOf floorOf fractOf value ofBits toBits ofInt neg add sub mul div lt le eq isNan toUnsigned
 sample-at-zero = tt

@@ -95,7 +95,7 @@ product-spanned (fin true m e) j i h l =
 
 -- ---- THE PHASE
 pub position-spanned : (s : LfoShape) (t : Float) → T (fits binary32 t) → Spanned (positionOf t ⊗ turnsOf s)
-unfolding turnsOf ofBits
+unfolding ofBits
 position-spanned Sine t f = product-spanned (positionOf t) 1 0 (lit≤ tt) (position-level t f)
 position-spanned Triangle t f = product-spanned (positionOf t) 1 0 (lit≤ tt) (position-level t f)
 position-spanned Square t f = product-spanned (positionOf t) 1 0 (lit≤ tt) (position-level t f)

@@ -45,7 +45,7 @@ abbrev pub kindText : MarkKind → List ℕ
 kindText kind = wordOf (ascii " dx='50'>A</text>| dx='50'>D</text>| dx='50'>S</text>| dx='50'>R</text>| class='m'>corner</text>| class='m'>cycle</text>| class='m'>tap</text>| class='m'>width</text>| class='m'>sweep</text>") (kindNumber kind)
 
 -- The row of mark number k under the frame: a row for each mark, so that two at one place are both read; cycles share the fourth.
-unfoldable pub rowOf : ℕ → MarkKind → ℕ
+abbrev pub rowOf : ℕ → MarkKind → ℕ
 rowOf k (ASegment s) = k
 rowOf k Corner = k
 rowOf k Cycle = 3

@@ -117,7 +117,7 @@ shapeRow : ℕ × ℕ × ℕ × ℕ × ℕ → Bool
 shapeRow r = let l = lfoOf (r .0) 77 (r .0) false in eqb (numberOf (l .shape)) (r .1) && is (l .turns) (r .2) && is (l .slew) (r .3) && switched (l .synced) (r .4)
 
 shape-agrees : T (allPass shapeRow shapeRows)
-unfolding allPass shapeRow shapeRows is switched toBits ofBits ofInt numberOf lfoOf lfoShapeOf turnsOf byteOf div
+unfolding allPass shapeRow shapeRows is switched toBits ofBits ofInt numberOf lfoOf lfoShapeOf byteOf div
 shape-agrees = tt
 
 -- ---- a fade

@@ -76,7 +76,7 @@ lfoShapeOf b =
     (cond (eqb b 6) SampleAndGlide Sine)))))
 
 -- The cycles that are drawn: 6 of the sampled shapes, 1 of all others.
-unfoldable pub turnsOf : LfoShape → Float
+abbrev pub turnsOf : LfoShape → Float
 turnsOf Sine = one₃₂
 turnsOf Triangle = one₃₂
 turnsOf Square = one₃₂

@@ -5,9 +5,6 @@ use borrow.Author.Needs.{needs}
 use Rattle.abi.proofs.filter_numbers.Statement.{statement}
 use Rattle.abi.proofs.filter_numbers.Tie as tie
 
-returns : tie.Need-returns
-unfolding settingsNumbers storedSettings settingsList padded
-returns c = simp (c .pass-number .ensures)
-
 pub filter-numbers-spec : {M : Type 1} → statement M
-filter-numbers-spec = tie.close (tie.spec (λ c κs. search needs) returns)
+unfolding settingsNumbers storedSettings settingsList padded
+filter-numbers-spec = tie.close (tie.spec (λ c κs. search needs) (λ c. simp (c .pass-number .ensures)))

@@ -5,9 +5,12 @@ use borrow.Author.Needs.{needs}
 use Rattle.abi.proofs.lfo_numbers.Statement.{statement}
 use Rattle.abi.proofs.lfo_numbers.Tie as tie
 
-returns : tie.Need-returns
-unfolding settingsNumbers storedSettings settingsList padded
-returns c = simp (c .flag2 .ensures, c .before .flag .ensures, c .before .before .shape-number .ensures)
-
 pub lfo-numbers-spec : {M : Type 1} → statement M
-lfo-numbers-spec = tie.close (tie.spec (λ c κs. search needs) (λ c κs. search needs) (λ c κs. search needs) returns)
+unfolding settingsNumbers storedSettings settingsList padded
+lfo-numbers-spec =
+    tie.close
+    (tie.spec
+    (λ c κs. search needs)
+    (λ c κs. search needs)
+    (λ c κs. search needs)
+    (λ c. simp (c .flag2 .ensures, c .before .flag .ensures, c .before .before .shape-number .ensures)))

@@ -5,9 +5,6 @@ use borrow.Author.Needs.{needs}
 use Rattle.abi.proofs.oscillator_numbers.Statement.{statement}
 use Rattle.abi.proofs.oscillator_numbers.Tie as tie
 
-returns : tie.Need-returns
-unfolding settingsNumbers storedSettings settingsList padded
-returns c = simp (c .flag2 .ensures, c .before .flag .ensures)
-
 pub oscillator-numbers-spec : {M : Type 1} → statement M
-oscillator-numbers-spec = tie.close (tie.spec (λ c κs. search needs) (λ c κs. search needs) returns)
+unfolding settingsNumbers storedSettings settingsList padded
+oscillator-numbers-spec = tie.close (tie.spec (λ c κs. search needs) (λ c κs. search needs) (λ c. simp (c .flag2 .ensures, c .before .flag .ensures)))

@@ -5,15 +5,8 @@ use Rattle.api.specs.Answers.{anchoredAnswer}
 use Rattle.api.proofs.anchored.Statement.{statement}
 use Rattle.api.proofs.anchored.Tie as tie
 
-returns : tie.Need-returns
-unfolding anchoredAnswer
-returns c = simp (sym (c .before .before .before .before .choose .ensures), c .before .before .chosen .given .1, c .anchored .ensures)
-
-returns-2 : tie.Need-returns-2
-unfolding anchoredAnswer
-returns-2 c = simp (sym (c .before .before .before .choose .ensures), c .before .chosen2 .given .1)
-
 pub anchored-spec : {M : Type 1} → statement M
+unfolding anchoredAnswer
 anchored-spec =
     tie.close
     (tie.spec
@@ -21,5 +14,5 @@ anchored-spec =
     (λ c. search needs)
     (λ c κs. search needs)
     (λ c. search needs)
-    returns
-    returns-2)
+    (λ c. simp (sym (c .before .before .before .before .choose .ensures), c .before .before .chosen .given .1, c .anchored .ensures))
+    (λ c. simp (sym (c .before .before .before .choose .ensures), c .before .chosen2 .given .1)))

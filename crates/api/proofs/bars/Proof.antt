@@ -4,9 +4,6 @@ use Rattle.api.specs.Answers.{barsAnswer}
 use Rattle.api.proofs.bars.Statement.{statement}
 use Rattle.api.proofs.bars.Tie as tie
 
-returns : tie.Need-returns
-unfolding barsAnswer
-returns c = simp (c .bars .ensures, c .before .before .gates .ensures)
-
 pub bars-spec : {M : Type 1} → statement M
-bars-spec = tie.close (tie.spec (λ c κs. search needs) (λ c κs. search needs) returns)
+unfolding barsAnswer
+bars-spec = tie.close (tie.spec (λ c κs. search needs) (λ c κs. search needs) (λ c. simp (c .bars .ensures, c .before .before .gates .ensures)))

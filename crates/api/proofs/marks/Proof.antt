@@ -5,15 +5,8 @@ use Rattle.api.specs.Answers.{marksAnswer}
 use Rattle.api.proofs.marks.Statement.{statement}
 use Rattle.api.proofs.marks.Tie as tie
 
-returns : tie.Need-returns
-unfolding marksAnswer
-returns c = simp (sym (c .before .before .before .before .choose .ensures), c .before .before .chosen .given .1, c .marks .ensures)
-
-returns-2 : tie.Need-returns-2
-unfolding marksAnswer
-returns-2 c = simp (sym (c .before .before .before .before .choose .ensures), c .before .before .chosen2 .given .1, c .no-marks .ensures)
-
 pub marks-spec : {M : Type 1} → statement M
+unfolding marksAnswer
 marks-spec =
     tie.close
     (tie.spec
@@ -22,5 +15,5 @@ marks-spec =
     (λ c κs. search needs)
     (λ c. search needs)
     (λ c κs. search needs)
-    returns
-    returns-2)
+    (λ c. simp (sym (c .before .before .before .before .choose .ensures), c .before .before .chosen .given .1, c .marks .ensures))
+    (λ c. simp (sym (c .before .before .before .before .choose .ensures), c .before .before .chosen2 .given .1, c .no-marks .ensures)))

@@ -5,15 +5,8 @@ use Rattle.api.specs.Answers.{restAnswer}
 use Rattle.api.proofs.rest.Statement.{statement}
 use Rattle.api.proofs.rest.Tie as tie
 
-returns : tie.Need-returns
-unfolding restAnswer
-returns c = simp (sym (c .before .before .before .before .choose .ensures), c .before .before .chosen .given .1, c .rest .ensures)
-
-returns-2 : tie.Need-returns-2
-unfolding restAnswer
-returns-2 c = simp (sym (c .before .before .before .choose .ensures), c .before .chosen2 .given .1)
-
 pub rest-spec : {M : Type 1} → statement M
+unfolding restAnswer
 rest-spec =
     tie.close
     (tie.spec
@@ -21,5 +14,5 @@ rest-spec =
     (λ c. search needs)
     (λ c κs. search needs)
     (λ c. search needs)
-    returns
-    returns-2)
+    (λ c. simp (sym (c .before .before .before .before .choose .ensures), c .before .before .chosen .given .1, c .rest .ensures))
+    (λ c. simp (sym (c .before .before .before .choose .ensures), c .before .chosen2 .given .1)))

@@ -5,15 +5,8 @@ use Rattle.api.specs.Answers.{scaleAnswer}
 use Rattle.api.proofs.scale.Statement.{statement}
 use Rattle.api.proofs.scale.Tie as tie
 
-returns : tie.Need-returns
-unfolding scaleAnswer
-returns c = simp (sym (c .before .before .before .before .choose .ensures), c .before .before .chosen .given .1, c .scale .ensures)
-
-returns-2 : tie.Need-returns-2
-unfolding scaleAnswer
-returns-2 c = simp (sym (c .before .before .before .choose .ensures), c .before .chosen2 .given .1)
-
 pub scale-spec : {M : Type 1} → statement M
+unfolding scaleAnswer
 scale-spec =
     tie.close
     (tie.spec
@@ -21,5 +14,5 @@ scale-spec =
     (λ c. search needs)
     (λ c κs. search needs)
     (λ c. search needs)
-    returns
-    returns-2)
+    (λ c. simp (sym (c .before .before .before .before .choose .ensures), c .before .before .chosen .given .1, c .scale .ensures))
+    (λ c. simp (sym (c .before .before .before .choose .ensures), c .before .chosen2 .given .1)))

@@ -5,14 +5,7 @@ use Rattle.api.specs.Answers.{settingsAnswer}
 use Rattle.api.proofs.settings.Statement.{statement}
 use Rattle.api.proofs.settings.Tie as tie
 
-returns : tie.Need-returns
-unfolding settingsAnswer
-returns c = simp (sym (c .before .before .before .choose .ensures), c .before .chosen .given .1)
-
-returns-2 : tie.Need-returns-2
-unfolding settingsAnswer
-returns-2 c = simp (sym (c .before .before .before .choose .ensures), c .before .chosen2 .given .1)
-
 pub settings-spec : {M : Type 1} → statement M
+unfolding settingsAnswer
 settings-spec =
-    tie.close (tie.spec (λ c κs. search needs) (λ c. search needs) (λ c. search needs) returns returns-2)
+    tie.close (tie.spec (λ c κs. search needs) (λ c. search needs) (λ c. search needs) (λ c. simp (sym (c .before .before .before .choose .ensures), c .before .chosen .given .1)) (λ c. simp (sym (c .before .before .before .choose .ensures), c .before .chosen2 .given .1)))

@@ -4,9 +4,6 @@ use Rattle.bars.specs.Bars.{noBars}
 use Rattle.bars.proofs.no_bars.Statement.{statement}
 use Rattle.bars.proofs.no_bars.Tie as tie
 
-returns : tie.Need-returns
-unfolding noBars
-returns c = refl
-
 pub no-bars-spec : {M : Type 1} → statement M
-no-bars-spec = tie.close (tie.spec returns)
+unfolding noBars
+no-bars-spec = tie.close (tie.spec (λ c. refl))

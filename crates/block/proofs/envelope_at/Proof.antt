@@ -4,11 +4,8 @@ use borrow.Author.Needs.{needs}
 use Rattle.block.proofs.envelope_at.Statement.{statement}
 use Rattle.block.proofs.envelope_at.Tie as tie
 
-returns : tie.Need-returns
-unfolding envelopeAt
-returns c = simp (c .before .before .before .before .before .before .before .before .before .envelope-first .ensures .0, c .envelope-from .ensures)
-
 pub envelope-at-spec : {M : Type 1} → statement M
+unfolding envelopeAt
 envelope-at-spec =
     tie.close
     (tie.spec
@@ -29,4 +26,4 @@ envelope-at-spec =
     (λ c. search needs)
     (λ c. search needs)
     (λ c κs. search needs)
-    returns)
+    (λ c. simp (c .before .before .before .before .before .before .before .before .before .envelope-first .ensures .0, c .envelope-from .ensures)))

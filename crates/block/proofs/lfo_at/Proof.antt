@@ -4,11 +4,8 @@ use borrow.Author.Needs.{needs}
 use Rattle.block.proofs.lfo_at.Statement.{statement}
 use Rattle.block.proofs.lfo_at.Tie as tie
 
-returns : tie.Need-returns
-unfolding lfoAt
-returns c = simp (c .before .before .before .before .lfo-first .ensures .0, c .lfo-from .ensures)
-
 pub lfo-at-spec : {M : Type 1} → statement M
+unfolding lfoAt
 lfo-at-spec =
     tie.close
     (tie.spec
@@ -19,4 +16,4 @@ lfo-at-spec =
     (λ c. search needs)
     (λ c. search needs)
     (λ c κs. search needs)
-    returns)
+    (λ c. simp (c .before .before .before .before .lfo-first .ensures .0, c .lfo-from .ensures)))

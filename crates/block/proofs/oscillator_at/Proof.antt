@@ -4,15 +4,8 @@ use borrow.Author.Needs.{needs}
 use Rattle.block.proofs.oscillator_at.Statement.{statement}
 use Rattle.block.proofs.oscillator_at.Tie as tie
 
-returns : tie.Need-returns
-unfolding oscillatorAt
-returns c = simp (c .before .before .before .before .before .enum-told .given .1, c .oscillator-one-from .ensures)
-
-returns-2 : tie.Need-returns-2
-unfolding oscillatorAt
-returns-2 c = simp (c .before .before .enum-told2 .given .1, c .oscillator-two-from .ensures)
-
 pub oscillator-at-spec : {M : Type 1} → statement M
+unfolding oscillatorAt
 oscillator-at-spec =
     tie.close
     (tie.spec
@@ -25,5 +18,5 @@ oscillator-at-spec =
     (λ c. search needs)
     (λ c. search needs)
     (λ c κs. search needs)
-    returns
-    returns-2)
+    (λ c. simp (c .before .before .before .before .before .enum-told .given .1, c .oscillator-one-from .ensures))
+    (λ c. simp (c .before .before .enum-told2 .given .1, c .oscillator-two-from .ensures)))

@@ -5,9 +5,6 @@ use borrow.Author.Needs.{needs}
 use Rattle.compare.proofs.print_differences.Statement.{statement}
 use Rattle.compare.proofs.print_differences.Tie as tie
 
-slice-aggregate-put-differences-2 : tie.Need-slice-aggregate-put-differences-2
-slice-aggregate-put-differences-2 c = sym (length-take-le 242 (c .before .before .before .before .before .args .both .now) (search needs))
-
 pub print-differences-spec : {M : Type 1} → statement M
 print-differences-spec =
     tie.close
@@ -22,7 +19,7 @@ print-differences-spec =
     (λ c. search needs)
     (λ c κs. search needs)
     (λ c. search needs)
-    slice-aggregate-put-differences-2
+    (λ c. sym (length-take-le 242 (c .before .before .before .before .before .args .both .now) (search needs)))
     (λ c. search needs)
     (λ c. search needs)
     (λ c. search needs)

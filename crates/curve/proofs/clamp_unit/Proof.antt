@@ -17,8 +17,5 @@ raised-then-lowered x = go (lt x zero₃₂)
     go true = refl
     go false = refl
 
-returns : tie.Need-returns
-returns c = simp (c .lowered .ensures, c .before .raised .ensures) (raised-then-lowered _)
-
 pub clamp-unit-spec : {M : Type 1} → statement M
-clamp-unit-spec = tie.close (tie.spec (λ c κs. search needs) (λ c κs. search needs) returns)
+clamp-unit-spec = tie.close (tie.spec (λ c κs. search needs) (λ c κs. search needs) (λ c. simp (c .lowered .ensures, c .before .raised .ensures) (raised-then-lowered _)))

@@ -4,9 +4,6 @@ use borrow.Author.Needs.{needs}
 use Rattle.envelope.proofs.attack.Statement.{statement}
 use Rattle.envelope.proofs.attack.Tie as tie
 
-returns : tie.Need-returns
-unfolding attackOf
-returns c = simp (c .bent .ensures, c .before .divide .ensures)
-
 pub attack-spec : {M : Type 1} → statement M
-attack-spec = tie.close (tie.spec (λ c κs. search needs) (λ c κs. search needs) returns)
+unfolding attackOf
+attack-spec = tie.close (tie.spec (λ c κs. search needs) (λ c κs. search needs) (λ c. simp (c .bent .ensures, c .before .divide .ensures)))

@@ -4,9 +4,12 @@ use borrow.Author.Needs.{needs}
 use Rattle.envelope.proofs.envelope_height.Statement.{statement}
 use Rattle.envelope.proofs.envelope_height.Tie as tie
 
-returns : tie.Need-returns
-unfolding envelopeHeightOf
-returns c = simp (c .drawn .ensures, c .before .level .ensures, c .before .before .position .ensures)
-
 pub envelope-height-spec : {M : Type 1} → statement M
-envelope-height-spec = tie.close (tie.spec (λ c κs. search needs) (λ c κs. search needs) (λ c κs. search needs) returns)
+unfolding envelopeHeightOf
+envelope-height-spec =
+    tie.close
+    (tie.spec
+    (λ c κs. search needs)
+    (λ c κs. search needs)
+    (λ c κs. search needs)
+    (λ c. simp (c .drawn .ensures, c .before .level .ensures, c .before .before .position .ensures)))

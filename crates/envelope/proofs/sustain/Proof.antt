@@ -4,9 +4,6 @@ use borrow.Author.Needs.{needs}
 use Rattle.envelope.proofs.sustain.Statement.{statement}
 use Rattle.envelope.proofs.sustain.Tie as tie
 
-returns : tie.Need-returns
-unfolding sustainOf
-returns c = simp (c .before .before .divide .ensures)
-
 pub sustain-spec : {M : Type 1} → statement M
-sustain-spec = tie.close (tie.spec (λ c κs. search needs) returns)
+unfolding sustainOf
+sustain-spec = tie.close (tie.spec (λ c κs. search needs) (λ c. simp (c .before .before .divide .ensures)))

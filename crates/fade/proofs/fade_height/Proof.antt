@@ -4,10 +4,7 @@ use borrow.Author.Needs.{needs}
 use Rattle.fade.proofs.fade_height.Statement.{statement}
 use Rattle.fade.proofs.fade_height.Tie as tie
 
-returns : tie.Need-returns
-unfolding fadeHeightOf
-returns c = cc
-
 pub fade-height-spec : {M : Type 1} → statement M
+unfolding fadeHeightOf
 fade-height-spec =
-    tie.close (tie.spec (λ c κs. search needs) (λ c κs. search needs) (λ c κs. search needs) returns)
+    tie.close (tie.spec (λ c κs. search needs) (λ c κs. search needs) (λ c κs. search needs) (λ c. cc))

@@ -4,9 +4,12 @@ use Rattle.filter.specs.Formula.{filterHeightOf}
 use Rattle.filter.proofs.filter_height.Statement.{statement}
 use Rattle.filter.proofs.filter_height.Tie as tie
 
-returns : tie.Need-returns
-unfolding filterHeightOf
-returns c = simp (c .before .before .position .ensures, c .before .level .ensures, c .drawn .ensures)
-
 pub filter-height-spec : {M : Type 1} → statement M
-filter-height-spec = tie.close (tie.spec (λ c κs. search needs) (λ c κs. search needs) (λ c κs. search needs) returns)
+unfolding filterHeightOf
+filter-height-spec =
+    tie.close
+    (tie.spec
+    (λ c κs. search needs)
+    (λ c κs. search needs)
+    (λ c κs. search needs)
+    (λ c. simp (c .before .before .position .ensures, c .before .level .ensures, c .drawn .ensures)))

@@ -4,9 +4,6 @@ use Rattle.filter.specs.Formula.{peakOf}
 use Rattle.filter.proofs.peak.Statement.{statement}
 use Rattle.filter.proofs.peak.Tie as tie
 
-returns : tie.Need-returns
-unfolding peakOf
-returns c = refl
-
 pub peak-spec : {M : Type 1} → statement M
-peak-spec = tie.close (tie.spec returns)
+unfolding peakOf
+peak-spec = tie.close (tie.spec (λ c. refl))

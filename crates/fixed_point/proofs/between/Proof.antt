@@ -18,32 +18,16 @@ tested : (c : tie.Else1) → Range (toBits binary32 (c .before .args .x))
 unfolding ofBits
 tested c = range _ (level (c .before)) (c .if1 .left)
 
-small-between-requires : tie.Need-small-between-requires
-unfolding ofBits
-small-between-requires c κs = search needs
-
-float-to-bits-bits : tie.Need-float-to-bits-bits
-float-to-bits-bits c = level-number _ (level (c .before))
-
-sub-digits-between : tie.Need-sub-digits-between
-sub-digits-between c = omega (arith, tested c .high)
-
-digits-between-requires : tie.Need-digits-between-requires
-digits-between-requires c κs = (search needs, omega (arith, tested c .low))
-
-returns-2 : tie.Need-returns-2
-unfolding ofBits
-returns-2 c = c .digits-between .ensures ∙ large _ _ _ (level (c .before .before)) (c .before .if1 .left) _ refl
-
 pub between-spec : {M : Type 1} → statement M
+unfolding ofBits
 between-spec =
     tie.close
     (tie.spec
-    small-between-requires
+    (λ c κs. search needs)
     (λ c. search needs)
-    float-to-bits-bits
+    (λ c. level-number _ (level (c .before)))
     (λ c. search needs)
     (λ c. search needs)
-    sub-digits-between
-    digits-between-requires
-    returns-2)
+    (λ c. omega (arith, tested c .high))
+    (λ c κs. (search needs, omega (arith, tested c .low)))
+    (λ c. c .digits-between .ensures ∙ large _ _ _ (level (c .before .before)) (c .before .if1 .left) _ refl))

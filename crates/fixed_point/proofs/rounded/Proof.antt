@@ -18,25 +18,7 @@ half-is s h = let l : 2 ^ s < 2 ^ 64 = omega (arith, half-most s h) in ap (λ (x
 digits-below : (c : tie.Start) → c .args .digits * c .args .n < 2 ^ 24 * 2 ^ 32
 digits-below c = product-below _ _ _ _ (c .pre .0) (c .pre .1)
 
-mul-result : tie.Need-mul-result
-mul-result c = record { fits = omega (arith, digits-below c) }
-
-mul-result-2 : tie.Need-mul-result-2
-mul-result-2 c = record { fits = omega (arith, digits-below c) }
-
-add-result : tie.Need-add-result
-add-result c = record { fits = omega (arith, digits-below c, half-is _ (c .pre .2), half-most _ (c .pre .2)) }
-
-mul-result-3 : tie.Need-mul-result-3
-mul-result-3 c = record { fits = omega (arith, half-is _ (c .pre .2), half-most _ (c .pre .2)) }
-
-div-result : tie.Need-div-result
-div-result c = omega (arith, half-is _ (c .pre .2), pow-pos (c .args .shift))
-
-returns : tie.Need-returns
-returns c = rw (half-is _ (c .pre .2))
-
 pub rounded-spec : {M : Type 1} → statement M
 rounded-spec =
     tie.close
-    (tie.spec (λ c. search needs) mul-result mul-result-2 add-result mul-result-3 div-result returns)
+    (tie.spec (λ c. search needs) (λ c. record { fits = omega (arith, digits-below c) }) (λ c. record { fits = omega (arith, digits-below c) }) (λ c. record { fits = omega (arith, digits-below c, half-is _ (c .pre .2), half-most _ (c .pre .2)) }) (λ c. record { fits = omega (arith, half-is _ (c .pre .2), half-most _ (c .pre .2)) }) (λ c. omega (arith, half-is _ (c .pre .2), pow-pos (c .args .shift))) (λ c. rw (half-is _ (c .pre .2))))

@@ -4,11 +4,11 @@ use borrow.Author.Needs.{needs}
 use Rattle.float_bits.proofs.agreeing.Statement.{statement}
 use Rattle.float_bits.proofs.agreeing.Tie as tie
 
-returns : tie.Need-returns
-returns c = nan-agrees (c .before .before .float-of .ensures) (c .before .float-of2 .ensures) (c .if1 .taken)
-
-returns-2 : tie.Need-returns-2
-returns-2 c = number-agrees (c .before .before .float-of .ensures) (c .before .float-of2 .ensures) (c .if1 .left)
-
 pub agreeing-spec : {M : Type 1} → statement M
-agreeing-spec = tie.close (tie.spec (λ c κs. search needs) (λ c κs. search needs) returns returns-2)
+agreeing-spec =
+    tie.close
+    (tie.spec
+    (λ c κs. search needs)
+    (λ c κs. search needs)
+    (λ c. nan-agrees (c .before .before .float-of .ensures) (c .before .float-of2 .ensures) (c .if1 .taken))
+    (λ c. number-agrees (c .before .before .float-of .ensures) (c .before .float-of2 .ensures) (c .if1 .left)))

@@ -5,12 +5,6 @@ use borrow.Author.Needs.{needs}
 use Rattle.float_bits.proofs.float_of.Statement.{statement}
 use Rattle.float_bits.proofs.float_of.Tie as tie
 
-returns : tie.Need-returns
-unfolding div ofBits
-returns c = one-nan _ (nan-above (c .before .args .word) (c .if1 .taken))
-
-float-from-bits-result : tie.Need-float-from-bits-result
-float-from-bits-result c = number-pattern (c .before .args .word) (c .if1 .left)
-
 pub float-of-spec : {M : Type 1} → statement M
-float-of-spec = tie.close (tie.spec returns float-from-bits-result (λ c. search needs))
+unfolding div ofBits
+float-of-spec = tie.close (tie.spec (λ c. one-nan _ (nan-above (c .before .args .word) (c .if1 .taken))) (λ c. number-pattern (c .before .args .word) (c .if1 .left)) (λ c. search needs))

@@ -6,11 +6,5 @@ use borrow.Author.Needs.{needs}
 use Rattle.float_bits.proofs.word_of.Statement.{statement}
 use Rattle.float_bits.proofs.word_of.Tie as tie
 
-returns : tie.Need-returns
-returns c = nan-bits _ (is-nan true _ (c .if1 .taken))
-
-float-to-bits-result : tie.Need-float-to-bits-result
-float-to-bits-result c = not-nan _ (is-nan false _ (c .if1 .left))
-
 pub word-of-spec : {M : Type 1} → statement M
-word-of-spec = tie.close (tie.spec returns float-to-bits-result (λ c. search needs))
+word-of-spec = tie.close (tie.spec (λ c. nan-bits _ (is-nan true _ (c .if1 .taken))) (λ c. not-nan _ (is-nan false _ (c .if1 .left))) (λ c. search needs))

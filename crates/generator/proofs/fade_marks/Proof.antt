@@ -5,9 +5,12 @@ use Rattle.lists.specs.Padded.{padded}
 use Rattle.generator.proofs.fade_marks.Statement.{statement}
 use Rattle.generator.proofs.fade_marks.Tie as tie
 
-returns : tie.Need-returns
-unfolding fadeMarks pushed noMarks stored padded countOf
-returns c = simp (c .push2 .ensures, c .before .push .ensures, c .before .before .no-marks .ensures)
-
 pub fade-marks-spec : {M : Type 1} → statement M
-fade-marks-spec = tie.close (tie.spec (λ c κs. search needs) (λ c κs. search needs) (λ c κs. search needs) returns)
+unfolding fadeMarks pushed noMarks stored padded countOf
+fade-marks-spec =
+    tie.close
+    (tie.spec
+    (λ c κs. search needs)
+    (λ c κs. search needs)
+    (λ c κs. search needs)
+    (λ c. simp (c .push2 .ensures, c .before .push .ensures, c .before .before .no-marks .ensures)))

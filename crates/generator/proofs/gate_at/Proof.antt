@@ -4,9 +4,6 @@ use Rattle.generator.specs.Gates.{gateOf}
 use Rattle.generator.proofs.gate_at.Statement.{statement}
 use Rattle.generator.proofs.gate_at.Tie as tie
 
-returns : tie.Need-returns
-unfolding gateOf
-returns c = simp (c .byte .ensures)
-
 pub gate-at-spec : {M : Type 1} → statement M
-gate-at-spec = tie.close (tie.spec (λ c. search needs) (λ c κs. search needs) returns)
+unfolding gateOf
+gate-at-spec = tie.close (tie.spec (λ c. search needs) (λ c κs. search needs) (λ c. simp (c .byte .ensures)))

@@ -3,8 +3,5 @@ use borrow.Author.Needs.{needs}
 use Rattle.generator.proofs.high_pass_response.Statement.{statement}
 use Rattle.generator.proofs.high_pass_response.Tie as tie
 
-returns : tie.Need-returns
-returns c = simp (c .of-shape .ensures, c .before .high-pass .ensures)
-
 pub high-pass-response-spec : {M : Type 1} → statement M
-high-pass-response-spec = tie.close (tie.spec (λ c κs. search needs) (λ c κs. search needs) returns)
+high-pass-response-spec = tie.close (tie.spec (λ c κs. search needs) (λ c κs. search needs) (λ c. simp (c .of-shape .ensures, c .before .high-pass .ensures)))

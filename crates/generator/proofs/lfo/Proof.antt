@@ -3,8 +3,5 @@ use borrow.Author.Needs.{needs}
 use Rattle.generator.proofs.lfo.Statement.{statement}
 use Rattle.generator.proofs.lfo.Tie as tie
 
-returns : tie.Need-returns
-returns c = simp (c .of-shape .ensures, c .before .lfo-from .ensures)
-
 pub lfo-spec : {M : Type 1} → statement M
-lfo-spec = tie.close (tie.spec (λ c κs. search needs) (λ c κs. search needs) returns)
+lfo-spec = tie.close (tie.spec (λ c κs. search needs) (λ c κs. search needs) (λ c. simp (c .of-shape .ensures, c .before .lfo-from .ensures)))

@@ -3,8 +3,5 @@ use borrow.Author.Needs.{needs}
 use Rattle.generator.proofs.lfo_fade.Statement.{statement}
 use Rattle.generator.proofs.lfo_fade.Tie as tie
 
-returns : tie.Need-returns
-returns c = simp (c .of-shape .ensures, c .before .fade-from .ensures)
-
 pub lfo-fade-spec : {M : Type 1} → statement M
-lfo-fade-spec = tie.close (tie.spec (λ c κs. search needs) (λ c κs. search needs) returns)
+lfo-fade-spec = tie.close (tie.spec (λ c κs. search needs) (λ c κs. search needs) (λ c. simp (c .of-shape .ensures, c .before .fade-from .ensures)))

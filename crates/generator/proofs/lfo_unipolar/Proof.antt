@@ -3,8 +3,5 @@ use borrow.Author.Needs.{needs}
 use Rattle.generator.proofs.lfo_unipolar.Statement.{statement}
 use Rattle.generator.proofs.lfo_unipolar.Tie as tie
 
-returns : tie.Need-returns
-returns c = simp (c .of-shape .ensures, c .before .lfo-from .ensures)
-
 pub lfo-unipolar-spec : {M : Type 1} → statement M
-lfo-unipolar-spec = tie.close (tie.spec (λ c κs. search needs) (λ c κs. search needs) returns)
+lfo-unipolar-spec = tie.close (tie.spec (λ c κs. search needs) (λ c κs. search needs) (λ c. simp (c .of-shape .ensures, c .before .lfo-from .ensures)))

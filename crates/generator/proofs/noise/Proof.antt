@@ -3,8 +3,5 @@ use borrow.Author.Needs.{needs}
 use Rattle.generator.proofs.noise.Statement.{statement}
 use Rattle.generator.proofs.noise.Tie as tie
 
-returns : tie.Need-returns
-returns c = simp (c .of-shape .ensures, c .before .noise-from .ensures)
-
 pub noise-spec : {M : Type 1} → statement M
-noise-spec = tie.close (tie.spec (λ c κs. search needs) (λ c κs. search needs) returns)
+noise-spec = tie.close (tie.spec (λ c κs. search needs) (λ c κs. search needs) (λ c. simp (c .of-shape .ensures, c .before .noise-from .ensures)))

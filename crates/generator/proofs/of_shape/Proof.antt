@@ -4,9 +4,6 @@ use borrow.Author.Needs.{needs}
 use Rattle.generator.proofs.of_shape.Statement.{statement}
 use Rattle.generator.proofs.of_shape.Tie as tie
 
-returns : tie.Need-returns
-unfolding generatorOf
-returns c = simp (c .scale-of .ensures)
-
 pub of-shape-spec : {M : Type 1} → statement M
-of-shape-spec = tie.close (tie.spec (λ c κs. search needs) returns)
+unfolding generatorOf
+of-shape-spec = tie.close (tie.spec (λ c κs. search needs) (λ c. simp (c .scale-of .ensures)))

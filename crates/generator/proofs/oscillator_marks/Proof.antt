@@ -5,9 +5,11 @@ use Rattle.generator.proofs.Stored.{push-list}
 use Rattle.generator.proofs.oscillator_marks.Statement.{statement}
 use Rattle.generator.proofs.oscillator_marks.Tie as tie
 
-returns : tie.Need-returns
-unfolding oscillatorMarks
-returns c = push-list (pulseMarks (c .before .before .args .o)) _ (c .before .pulse-marks .ensures) (c .cycles .ensures)
-
 pub oscillator-marks-spec : {M : Type 1} → statement M
-oscillator-marks-spec = tie.close (tie.spec (λ c κs. search needs) (λ c κs. search needs) returns)
+unfolding oscillatorMarks
+oscillator-marks-spec =
+    tie.close
+    (tie.spec
+    (λ c κs. search needs)
+    (λ c κs. search needs)
+    (λ c. push-list (pulseMarks (c .before .before .args .o)) _ (c .before .pulse-marks .ensures) (c .cycles .ensures)))

@@ -3,8 +3,5 @@ use borrow.Author.Needs.{needs}
 use Rattle.generator.proofs.oscillator_one.Statement.{statement}
 use Rattle.generator.proofs.oscillator_one.Tie as tie
 
-returns : tie.Need-returns
-returns c = simp (c .of-shape .ensures, c .before .oscillator-one-from .ensures)
-
 pub oscillator-one-spec : {M : Type 1} → statement M
-oscillator-one-spec = tie.close (tie.spec (λ c κs. search needs) (λ c κs. search needs) returns)
+oscillator-one-spec = tie.close (tie.spec (λ c κs. search needs) (λ c κs. search needs) (λ c. simp (c .of-shape .ensures, c .before .oscillator-one-from .ensures)))

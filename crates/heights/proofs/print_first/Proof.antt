@@ -5,9 +5,6 @@ use borrow.Author.Needs.{needs}
 use Rattle.heights.proofs.print_first.Statement.{statement}
 use Rattle.heights.proofs.print_first.Tie as tie
 
-slice-aggregate-write-all : tie.Need-slice-aggregate-write-all
-slice-aggregate-write-all c = sym (length-take-le _ _ (search needs))
-
 pub print-first-spec : {M : Type 1} → statement M
 print-first-spec =
-    tie.close (tie.spec slice-aggregate-write-all (λ c κs. search needs) (λ c. search needs) (λ c. search needs))
+    tie.close (tie.spec (λ c. sym (length-take-le _ _ (search needs))) (λ c κs. search needs) (λ c. search needs) (λ c. search needs))

@@ -5,22 +5,16 @@ use borrow.Author.Needs.{needs}
 use Rattle.heights.proofs.print_strip.Statement.{statement}
 use Rattle.heights.proofs.print_strip.Tie as tie
 
-slice-aggregate-strip : tie.Need-slice-aggregate-strip
-slice-aggregate-strip c = sym (length-take-le _ _ (search needs))
-
-slice-aggregate-print-rows : tie.Need-slice-aggregate-print-rows
-slice-aggregate-print-rows c = sym (length-take-le _ _ (search needs))
-
 pub print-strip-spec : {M : Type 1} → statement M
 print-strip-spec =
     tie.close
     (tie.spec
     (λ c. search needs)
-    slice-aggregate-strip
+    (λ c. sym (length-take-le _ _ (search needs)))
     (λ c κs. search needs)
     (λ c. search needs)
     (λ c. search needs)
-    slice-aggregate-print-rows
+    (λ c. sym (length-take-le _ _ (search needs)))
     (λ c κs. search needs)
     (λ c. search needs)
     (λ c κs. search needs)

@@ -3,8 +3,5 @@ use borrow.Author.Needs.{needs}
 use Rattle.juvrada.proofs.juvrada_anchored.Statement.{statement}
 use Rattle.juvrada.proofs.juvrada_anchored.Tie as tie
 
-returns : tie.Need-returns
-returns c = simp (c .anchored-result .ensures, c .before .anchored .ensures)
-
 pub juvrada-anchored-spec : {M : Type 1} → statement M
-juvrada-anchored-spec = tie.close (tie.spec (λ c κs. search needs) (λ c κs. search needs) returns)
+juvrada-anchored-spec = tie.close (tie.spec (λ c κs. search needs) (λ c κs. search needs) (λ c. simp (c .anchored-result .ensures, c .before .anchored .ensures)))

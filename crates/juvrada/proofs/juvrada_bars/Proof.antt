@@ -4,8 +4,5 @@ use borrow.Author.Needs.{needs}
 use Rattle.juvrada.proofs.juvrada_bars.Statement.{statement}
 use Rattle.juvrada.proofs.juvrada_bars.Tie as tie
 
-returns : tie.Need-returns
-returns c = same-gates (c .before .before .before .bars .ensures) (c .copy-gates .ensures)
-
 pub juvrada-bars-spec : {M : Type 1} → statement M
-juvrada-bars-spec = tie.close (tie.spec (λ c κs. search needs) (λ c κs. search needs) returns)
+juvrada-bars-spec = tie.close (tie.spec (λ c κs. search needs) (λ c κs. search needs) (λ c. same-gates (c .before .before .before .bars .ensures) (c .copy-gates .ensures)))

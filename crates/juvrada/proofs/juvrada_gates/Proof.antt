@@ -4,8 +4,5 @@ use borrow.Author.Needs.{needs}
 use Rattle.juvrada.proofs.juvrada_gates.Statement.{statement}
 use Rattle.juvrada.proofs.juvrada_gates.Tie as tie
 
-returns : tie.Need-returns
-returns c = same-gates (c .before .before .before .gates .ensures) (c .copy-gates .ensures)
-
 pub juvrada-gates-spec : {M : Type 1} → statement M
-juvrada-gates-spec = tie.close (tie.spec (λ c κs. search needs) (λ c κs. search needs) returns)
+juvrada-gates-spec = tie.close (tie.spec (λ c κs. search needs) (λ c κs. search needs) (λ c. same-gates (c .before .before .before .gates .ensures) (c .copy-gates .ensures)))

@@ -4,8 +4,5 @@ use borrow.Author.Needs.{needs}
 use Rattle.juvrada.proofs.juvrada_marks.Statement.{statement}
 use Rattle.juvrada.proofs.juvrada_marks.Tie as tie
 
-returns : tie.Need-returns
-returns c = same-marks (c .before .before .before .marks .ensures) (c .copy-marks .ensures)
-
 pub juvrada-marks-spec : {M : Type 1} → statement M
-juvrada-marks-spec = tie.close (tie.spec (λ c κs. search needs) (λ c κs. search needs) returns)
+juvrada-marks-spec = tie.close (tie.spec (λ c κs. search needs) (λ c κs. search needs) (λ c. same-marks (c .before .before .before .marks .ensures) (c .copy-marks .ensures)))

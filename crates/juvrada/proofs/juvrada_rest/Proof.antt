@@ -3,8 +3,5 @@ use borrow.Author.Needs.{needs}
 use Rattle.juvrada.proofs.juvrada_rest.Statement.{statement}
 use Rattle.juvrada.proofs.juvrada_rest.Tie as tie
 
-returns : tie.Need-returns
-returns c = simp (c .rest-result .ensures, c .before .rest .ensures)
-
 pub juvrada-rest-spec : {M : Type 1} → statement M
-juvrada-rest-spec = tie.close (tie.spec (λ c κs. search needs) (λ c κs. search needs) returns)
+juvrada-rest-spec = tie.close (tie.spec (λ c κs. search needs) (λ c κs. search needs) (λ c. simp (c .rest-result .ensures, c .before .rest .ensures)))

@@ -3,8 +3,5 @@ use borrow.Author.Needs.{needs}
 use Rattle.juvrada.proofs.juvrada_scale.Statement.{statement}
 use Rattle.juvrada.proofs.juvrada_scale.Tie as tie
 
-returns : tie.Need-returns
-returns c = simp (c .scale-result .ensures, c .before .scale .ensures)
-
 pub juvrada-scale-spec : {M : Type 1} → statement M
-juvrada-scale-spec = tie.close (tie.spec (λ c κs. search needs) (λ c κs. search needs) returns)
+juvrada-scale-spec = tie.close (tie.spec (λ c κs. search needs) (λ c κs. search needs) (λ c. simp (c .scale-result .ensures, c .before .scale .ensures)))

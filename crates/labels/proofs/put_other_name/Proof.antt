@@ -3,8 +3,13 @@ use borrow.Author.Needs.{needs}
 use Rattle.labels.proofs.put_other_name.Statement.{statement}
 use Rattle.labels.proofs.put_other_name.Tie as tie
 
-returns : tie.Need-returns
-returns c = rw (← c .before .before .before .before .before .index-of .ensures) (c .before .before .put-word .ensures)
-
 pub put-other-name-spec : {M : Type 1} → statement M
-put-other-name-spec = tie.close (tie.spec (λ c. search needs) (λ c κs. search needs) (λ c. search needs) (λ c κs. search needs) (λ c. search needs) returns)
+put-other-name-spec =
+    tie.close
+    (tie.spec
+    (λ c. search needs)
+    (λ c κs. search needs)
+    (λ c. search needs)
+    (λ c κs. search needs)
+    (λ c. search needs)
+    (λ c. rw (← c .before .before .before .before .before .index-of .ensures) (c .before .before .put-word .ensures)))

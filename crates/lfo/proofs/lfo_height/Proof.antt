@@ -4,13 +4,12 @@ use borrow.Author.Needs.{needs}
 use Rattle.lfo.proofs.lfo_height.Statement.{statement}
 use Rattle.lfo.proofs.lfo_height.Tie as tie
 
-returns : tie.Need-returns
-unfolding lfoHeightOf
-returns c = simp (c .before .if1 .taken, c .unslewed-height .ensures)
-
-returns-2 : tie.Need-returns-2
-unfolding lfoHeightOf
-returns-2 c = simp (c .before .if1 .left, c .slewed-height .ensures)
-
 pub lfo-height-spec : {M : Type 1} → statement M
-lfo-height-spec = tie.close (tie.spec (λ c κs. search needs) returns (λ c κs. search needs) returns-2)
+unfolding lfoHeightOf
+lfo-height-spec =
+    tie.close
+    (tie.spec
+    (λ c κs. search needs)
+    (λ c. simp (c .before .if1 .taken, c .unslewed-height .ensures))
+    (λ c κs. search needs)
+    (λ c. simp (c .before .if1 .left, c .slewed-height .ensures)))

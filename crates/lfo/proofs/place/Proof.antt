@@ -6,9 +6,6 @@ use borrow.Author.Needs.{needs}
 use Rattle.lfo.proofs.place.Statement.{statement}
 use Rattle.lfo.proofs.place.Tie as tie
 
-returns : tie.Need-returns
-unfolding stepOf placeOf ofBits neg div
-returns c = refl
-
 pub place-spec : {M : Type 1} → statement M
-place-spec = tie.close (tie.spec (λ c. search needs) returns)
+unfolding stepOf placeOf ofBits neg div
+place-spec = tie.close (tie.spec (λ c. search needs) (λ c. refl))

@@ -4,9 +4,12 @@ use borrow.Author.Needs.{needs}
 use Rattle.lfo_shapes.proofs.glide.Statement.{statement}
 use Rattle.lfo_shapes.proofs.glide.Tie as tie
 
-returns : tie.Need-returns
-unfolding glideOf
-returns c = simp (c .fract .ensures, c .before .sampled2 .ensures, c .before .before .sampled .ensures)
-
 pub glide-spec : {M : Type 1} → statement M
-glide-spec = tie.close (tie.spec (λ c κs. search needs) (λ c κs. search needs) (λ c κs. search needs) returns)
+unfolding glideOf
+glide-spec =
+    tie.close
+    (tie.spec
+    (λ c κs. search needs)
+    (λ c κs. search needs)
+    (λ c κs. search needs)
+    (λ c. simp (c .fract .ensures, c .before .sampled2 .ensures, c .before .before .sampled .ensures)))

@@ -4,9 +4,6 @@ use borrow.Author.Needs.{needs}
 use Rattle.lfo_shapes.proofs.sampled.Statement.{statement}
 use Rattle.lfo_shapes.proofs.sampled.Tie as tie
 
-returns : tie.Need-returns
-unfolding sampledOf indexOf
-returns c = simp (c .sample .ensures, c .before .floor2 .ensures, c .before .before .floor .ensures)
-
 pub sampled-spec : {M : Type 1} → statement M
-sampled-spec = tie.close (tie.spec (λ c κs. search needs) (λ c κs. search needs) (λ c κs. search needs) returns)
+unfolding sampledOf indexOf
+sampled-spec = tie.close (tie.spec (λ c κs. search needs) (λ c κs. search needs) (λ c κs. search needs) (λ c. simp (c .sample .ensures, c .before .floor2 .ensures, c .before .before .floor .ensures)))

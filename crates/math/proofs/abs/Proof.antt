@@ -6,11 +6,10 @@ use borrow.Author.Needs.{needs}
 use Rattle.math.proofs.abs.Statement.{statement}
 use Rattle.math.proofs.abs.Tie as tie
 
-returns : tie.Need-returns
-returns c = negative _ (c .if1 .taken)
-
-returns-2 : tie.Need-returns-2
-returns-2 c = c .unsigned-zero .ensures ∙ not-negative _ (subst T (sym (c .before .before .good .0 .1)) tt) (c .before .if1 .left)
-
 pub abs-spec : {M : Type 1} → statement M
-abs-spec = tie.close (tie.spec returns (λ c κs. search needs) returns-2)
+abs-spec =
+    tie.close
+    (tie.spec
+    (λ c. negative _ (c .if1 .taken))
+    (λ c κs. search needs)
+    (λ c. c .unsigned-zero .ensures ∙ not-negative _ (subst T (sym (c .before .before .good .0 .1)) tt) (c .before .if1 .left)))

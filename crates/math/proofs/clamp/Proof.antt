@@ -3,17 +3,6 @@ use Rattle.math.specs.Formulas.{clampOf}
 use Rattle.math.proofs.clamp.Statement.{statement}
 use Rattle.math.proofs.clamp.Tie as tie
 
-returns : tie.Need-returns
-unfolding clampOf
-returns c = simp (c .if1 .taken)
-
-returns-2 : tie.Need-returns-2
-unfolding clampOf
-returns-2 c = simp (c .before .if1 .left, c .if2 .taken)
-
-returns-3 : tie.Need-returns-3
-unfolding clampOf
-returns-3 c = simp (c .before .if1 .left, c .if2 .left)
-
 pub clamp-spec : {M : Type 1} → statement M
-clamp-spec = tie.close (tie.spec returns returns-2 returns-3)
+unfolding clampOf
+clamp-spec = tie.close (tie.spec (λ c. simp (c .if1 .taken)) (λ c. simp (c .before .if1 .left, c .if2 .taken)) (λ c. simp (c .before .if1 .left, c .if2 .left)))

@@ -6,11 +6,5 @@ use Rattle.math.proofs.Digits.{from-digits}
 use Rattle.math.proofs.from_u16.Statement.{statement}
 use Rattle.math.proofs.from_u16.Tie as tie
 
-float-from-bits-result : tie.Need-float-from-bits-result
-float-from-bits-result c = number-bits _ (omega (arith, c .good .0 .1))
-
-returns : tie.Need-returns
-returns c = from-digits _ (c .good .0 .1)
-
 pub from-u16-spec : {M : Type 1} → statement M
-from-u16-spec = tie.close (tie.spec (λ c. search needs) float-from-bits-result returns)
+from-u16-spec = tie.close (tie.spec (λ c. search needs) (λ c. number-bits _ (omega (arith, c .good .0 .1))) (λ c. from-digits _ (c .good .0 .1)))

@@ -5,9 +5,6 @@ use Rattle.math.specs.Formulas.{exp2Coefficients}
 use Rattle.math.proofs.polynomial.Statement.{statement}
 use Rattle.math.proofs.polynomial.Tie as tie
 
-returns : tie.Need-returns
-unfolding horner exp2Coefficients
-returns c = refl
-
 pub polynomial-spec : {M : Type 1} → statement M
-polynomial-spec = tie.close (tie.spec returns)
+unfolding horner exp2Coefficients
+polynomial-spec = tie.close (tie.spec (λ c. refl))

@@ -4,9 +4,6 @@ use borrow.Author.Needs.{needs}
 use Rattle.noise.proofs.noise_at.Statement.{statement}
 use Rattle.noise.proofs.noise_at.Tie as tie
 
-returns : tie.Need-returns
-unfolding noiseAtOf
-returns c = cc
-
 pub noise-at-spec : {M : Type 1} → statement M
-noise-at-spec = tie.close (tie.spec (λ c κs. search needs) (λ c κs. search needs) returns)
+unfolding noiseAtOf
+noise-at-spec = tie.close (tie.spec (λ c κs. search needs) (λ c κs. search needs) (λ c. cc))

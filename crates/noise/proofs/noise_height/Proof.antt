@@ -4,10 +4,7 @@ use borrow.Author.Needs.{needs}
 use Rattle.noise.proofs.noise_height.Statement.{statement}
 use Rattle.noise.proofs.noise_height.Tie as tie
 
-returns : tie.Need-returns
-unfolding noiseHeightOf
-returns c = cc
-
 pub noise-height-spec : {M : Type 1} → statement M
+unfolding noiseHeightOf
 noise-height-spec =
-    tie.close (tie.spec (λ c κs. search needs) (λ c κs. search needs) (λ c κs. search needs) returns)
+    tie.close (tie.spec (λ c κs. search needs) (λ c κs. search needs) (λ c κs. search needs) (λ c. cc))

@@ -4,9 +4,6 @@ use borrow.Author.Needs.{needs}
 use Rattle.noise.proofs.noise_level.Statement.{statement}
 use Rattle.noise.proofs.noise_level.Tie as tie
 
-returns : tie.Need-returns
-unfolding noiseLevelOf
-returns c = cc
-
 pub noise-level-spec : {M : Type 1} → statement M
-noise-level-spec = tie.close (tie.spec (λ c κs. search needs) returns)
+unfolding noiseLevelOf
+noise-level-spec = tie.close (tie.spec (λ c κs. search needs) (λ c. cc))

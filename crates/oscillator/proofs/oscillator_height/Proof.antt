@@ -4,10 +4,7 @@ use borrow.Author.Needs.{needs}
 use Rattle.oscillator.proofs.oscillator_height.Statement.{statement}
 use Rattle.oscillator.proofs.oscillator_height.Tie as tie
 
-returns : tie.Need-returns
-unfolding oscillatorHeightOf
-returns c = cc
-
 pub oscillator-height-spec : {M : Type 1} → statement M
+unfolding oscillatorHeightOf
 oscillator-height-spec =
-    tie.close (tie.spec (λ c κs. search needs) (λ c κs. search needs) (λ c κs. search needs) returns)
+    tie.close (tie.spec (λ c κs. search needs) (λ c κs. search needs) (λ c κs. search needs) (λ c. cc))

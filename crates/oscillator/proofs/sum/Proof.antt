@@ -4,9 +4,6 @@ use borrow.Author.Needs.{needs}
 use Rattle.oscillator.proofs.sum.Statement.{statement}
 use Rattle.oscillator.proofs.sum.Tie as tie
 
-returns : tie.Need-returns
-unfolding sumOf
-returns c = cc
-
 pub sum-spec : {M : Type 1} → statement M
-sum-spec = tie.close (tie.spec (λ c κs. search needs) (λ c κs. search needs) (λ c κs. search needs) (λ c κs. search needs) returns)
+unfolding sumOf
+sum-spec = tie.close (tie.spec (λ c κs. search needs) (λ c κs. search needs) (λ c κs. search needs) (λ c κs. search needs) (λ c. cc))

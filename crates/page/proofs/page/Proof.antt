@@ -6,13 +6,12 @@ use borrow.Author.Needs.{needs}
 use Rattle.page.proofs.page.Statement.{statement}
 use Rattle.page.proofs.page.Tie as tie
 
-returns : tie.Need-returns
-unfolding pageText
-returns c = simp (ne-eqb _ _ (c .if1 .taken)) (puts-none _ _)
-
-returns-2 : tie.Need-returns-2
-unfolding pageText
-returns-2 c = simp (c .before .before .before .before .if1 .left) (c .before .before .put-page .ensures)
-
 pub page-spec : {M : Type 1} → statement M
-page-spec = tie.close (tie.spec returns (λ c κs. search needs) (λ c. search needs) returns-2)
+unfolding pageText
+page-spec =
+    tie.close
+    (tie.spec
+    (λ c. simp (ne-eqb _ _ (c .if1 .taken)) (puts-none _ _))
+    (λ c κs. search needs)
+    (λ c. search needs)
+    (λ c. simp (c .before .before .before .before .if1 .left) (c .before .before .put-page .ensures)))

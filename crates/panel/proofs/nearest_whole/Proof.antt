@@ -4,9 +4,6 @@ use borrow.Author.Needs.{needs}
 use Rattle.panel.proofs.nearest_whole.Statement.{statement}
 use Rattle.panel.proofs.nearest_whole.Tie as tie
 
-returns : tie.Need-returns
-unfolding nearestWhole
-returns c = c .nearest .ensures .0
-
 pub nearest-whole-spec : {M : Type 1} → statement M
-nearest-whole-spec = tie.close (tie.spec (λ c κs. search needs) returns)
+unfolding nearestWhole
+nearest-whole-spec = tie.close (tie.spec (λ c κs. search needs) (λ c. c .nearest .ensures .0))

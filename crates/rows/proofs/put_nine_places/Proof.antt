@@ -4,9 +4,12 @@ use borrow.Author.Needs.{needs}
 use Rattle.rows.proofs.put_nine_places.Statement.{statement}
 use Rattle.rows.proofs.put_nine_places.Tie as tie
 
-returns : tie.Need-returns
-unfolding ninePlaces
-returns c = simp (← c .before .before .before .nearest .ensures .0) (c .before .before .put-fixed .ensures)
-
 pub put-nine-places-spec : {M : Type 1} → statement M
-put-nine-places-spec = tie.close (tie.spec (λ c κs. search needs) (λ c κs. search needs) (λ c. search needs) returns)
+unfolding ninePlaces
+put-nine-places-spec =
+    tie.close
+    (tie.spec
+    (λ c κs. search needs)
+    (λ c κs. search needs)
+    (λ c. search needs)
+    (λ c. simp (← c .before .before .before .nearest .ensures .0) (c .before .before .put-fixed .ensures)))

@@ -5,11 +5,8 @@ use borrow.Author.Needs.{needs}
 use Rattle.rows.proofs.put_sample.Statement.{statement}
 use Rattle.rows.proofs.put_sample.Tie as tie
 
-returns : tie.Need-returns
-unfolding sampleText samplePosition
-returns c = simp (← c .before .before .before .before .sample-position .ensures) (c .before .before .put-row .ensures)
-
 pub put-sample-spec : {M : Type 1} → statement M
+unfolding sampleText samplePosition
 put-sample-spec =
     tie.close
     (tie.spec
@@ -21,4 +18,4 @@ put-sample-spec =
     (λ c. search needs)
     (λ c κs. search needs)
     (λ c. search needs)
-    returns)
+    (λ c. simp (← c .before .before .before .before .sample-position .ensures) (c .before .before .put-row .ensures)))

@@ -4,14 +4,10 @@ use borrow.Author.Tests.{ne-eqb, lt-ltb, le-ltb}
 use Rattle.settings.proofs.is_manual.Statement.{statement}
 use Rattle.settings.proofs.is_manual.Tie as tie
 
-returns : tie.Need-returns
-returns c = simp (c .match .keys1)
-
-returns-2 : tie.Need-returns-2
-returns-2 c = simp (ne-eqb _ _ (c .before .match .rest .1), le-ltb 5 _ (le-of-suc-le-suc (c .if1 .taken)))
-
-returns-3 : tie.Need-returns-3
-returns-3 c = simp (ne-eqb _ _ (c .before .match .rest .1), lt-ltb 5 _ (c .if1 .left))
-
 pub is-manual-spec : {M : Type 1} → statement M
-is-manual-spec = tie.close (tie.spec returns returns-2 returns-3)
+is-manual-spec =
+    tie.close
+    (tie.spec
+    (λ c. simp (c .match .keys1))
+    (λ c. simp (ne-eqb _ _ (c .before .match .rest .1), le-ltb 5 _ (le-of-suc-le-suc (c .if1 .taken))))
+    (λ c. simp (ne-eqb _ _ (c .before .match .rest .1), lt-ltb 5 _ (c .if1 .left))))

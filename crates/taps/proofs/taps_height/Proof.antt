@@ -4,10 +4,7 @@ use borrow.Author.Needs.{needs}
 use Rattle.taps.proofs.taps_height.Statement.{statement}
 use Rattle.taps.proofs.taps_height.Tie as tie
 
-returns : tie.Need-returns
-unfolding tapsHeightOf
-returns c = cc
-
 pub taps-height-spec : {M : Type 1} → statement M
+unfolding tapsHeightOf
 taps-height-spec =
-    tie.close (tie.spec (λ c κs. search needs) (λ c κs. search needs) (λ c κs. search needs) returns)
+    tie.close (tie.spec (λ c κs. search needs) (λ c κs. search needs) (λ c κs. search needs) (λ c. cc))

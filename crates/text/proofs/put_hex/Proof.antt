@@ -4,9 +4,6 @@ use borrow.Author.Needs.{needs}
 use Rattle.text.proofs.put_hex.Statement.{statement}
 use Rattle.text.proofs.put_hex.Tie as tie
 
-returns : tie.Need-returns
-unfolding hexOf
-returns c = c .before .before .put-digits .ensures
-
 pub put-hex-spec : {M : Type 1} → statement M
-put-hex-spec = tie.close (tie.spec (λ c κs. search needs) (λ c. search needs) returns)
+unfolding hexOf
+put-hex-spec = tie.close (tie.spec (λ c κs. search needs) (λ c. search needs) (λ c. c .before .before .put-digits .ensures))

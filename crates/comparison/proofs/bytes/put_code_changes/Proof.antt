@@ -6,14 +6,13 @@ use borrow.Author.Needs.{needs}
 use Rattle.comparison.proofs.bytes.put_code_changes.Statement.{statement}
 use Rattle.comparison.proofs.bytes.put_code_changes.Tie as tie
 
-array-share-prefix-numbers : tie.Need-array-share-prefix-numbers
-array-share-prefix-numbers c = c .before .before .bytes-of .ensures .0
-
-slice-aggregate-put-changes : tie.Need-slice-aggregate-put-changes
-slice-aggregate-put-changes c = simp length-take (omega (arith, c .before .before .before .bytes-of .ensures .0))
-
-returns : tie.Need-returns
-returns c = rw (sym (c .before .before .before .before .before .before .bytes-of .ensures .1)) (c .before .before .put-changes .ensures)
-
 pub put-code-changes-spec : {M : Type 1} → statement M
-put-code-changes-spec = tie.close (tie.spec (λ c κs. search needs) array-share-prefix-numbers slice-aggregate-put-changes (λ c κs. search needs) (λ c. search needs) returns)
+put-code-changes-spec =
+    tie.close
+    (tie.spec
+    (λ c κs. search needs)
+    (λ c. c .before .before .bytes-of .ensures .0)
+    (λ c. simp length-take (omega (arith, c .before .before .before .bytes-of .ensures .0)))
+    (λ c κs. search needs)
+    (λ c. search needs)
+    (λ c. rw (sym (c .before .before .before .before .before .before .bytes-of .ensures .1)) (c .before .before .put-changes .ensures)))

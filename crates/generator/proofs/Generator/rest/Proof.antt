@@ -12,27 +12,6 @@ unity : bits 0x3f4c_cccd ≡ filterUnity
 unfolding filterUnity div ofBits
 unity = refl
 
-returns : tie.Need-returns
-returns c = simp (c .before .before .shape .given .1, c .if1 .taken)
-
-returns-2 : tie.Need-returns-2
-returns-2 c = simp (c .enum-told .given .1)
-
-returns-3 : tie.Need-returns-3
-returns-3 c = simp (c .enum-told2 .given .1)
-
-returns-4 : tie.Need-returns-4
-returns-4 c = simp (c .before .before .shape .given .1, c .if1 .left)
-
-returns-5 : tie.Need-returns-5
-returns-5 c = simp (c .enum-told3 .given .1) unity
-
-returns-6 : tie.Need-returns-6
-returns-6 c = simp (c .enum-told4 .given .1)
-
-returns-7 : tie.Need-returns-7
-returns-7 c = simp (c .enum-told5 .given .1)
-
 pub rest-spec : {M : Type 1} → statement M
 rest-spec =
     tie.close
@@ -40,13 +19,13 @@ rest-spec =
     (λ c. search needs)
     (λ c. search needs)
     (λ c. search needs)
-    returns
+    (λ c. simp (c .before .before .shape .given .1, c .if1 .taken))
     (λ c. search needs)
     (λ c. search needs)
     (λ c. search needs)
-    returns-2
-    returns-3
-    returns-4
-    returns-5
-    returns-6
-    returns-7)
+    (λ c. simp (c .enum-told .given .1))
+    (λ c. simp (c .enum-told2 .given .1))
+    (λ c. simp (c .before .before .shape .given .1, c .if1 .left))
+    (λ c. simp (c .enum-told3 .given .1) unity)
+    (λ c. simp (c .enum-told4 .given .1))
+    (λ c. simp (c .enum-told5 .given .1)))
