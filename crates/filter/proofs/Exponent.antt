@@ -47,7 +47,7 @@ octaves-plain Low = tt
 octaves-plain High = tt
 
 pub octaves-runs : (p : Pass) (ρ : ℕ → Float) → evalFloat binary32 ρ (octaves p) ≡ mirroredOf p ((ρ 0 ⊖ half₃₂) ⊗ two₃₂ ⊗ span)
-unfolding evalFloat octaves low
+unfolding evalFloat octaves low mirroredOf
 octaves-runs Low ρ = refl
 octaves-runs High ρ = refl
 

@@ -35,7 +35,7 @@ abbrev pub rangeDb₃₂ : Float
 rangeDb₃₂ = bits 0x4270_0000
 
 -- ---- octaves from the corner, which is at one half: a high-pass counts them the other way
-abbrev pub mirroredOf : Pass → Float → Float
+unfoldable pub mirroredOf : Pass → Float → Float
 mirroredOf Low o = o
 mirroredOf High o = neg o
 
