@@ -24,7 +24,7 @@ use std::time::{Duration, Instant};
 const MEASURED: Duration = Duration::from_micros(100);
 
 /// The sides take turns until each has so many measurements on a quiet core, or until it has taken too long.
-const QUIET: usize = 8;
+const QUIET: usize = 16;
 const ENOUGH: Duration = Duration::from_millis(60);
 
 /// How long a measurement waits for a quiet core at most.

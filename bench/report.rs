@@ -5,10 +5,10 @@ use std::collections::HashMap;
 const OURS: &str = "juvrada";
 const BEFORE: &str = "before";
 
-/// The reference as a function of the code, which is what ours is: the one that is fastest in a figure is the Rust of that figure.
+/// The reference in its forms, at both levels: as a function of the code, which is what ours is, and compiled for one curve.
+const CALLED: &[&str] = &["called2", "called3"];
+const INLINED: &[&str] = &["inlined2", "inlined3"];
 const BY_CODE: &[&str] = &["called2", "called3", "inlined2", "inlined3"];
-
-/// The reference compiled for one curve.
 const KNOWN: &[&str] = &["known2", "known3"];
 
 /// Where the gauge shows so many times the least that it has shown, something else was running on the core.
@@ -38,28 +38,29 @@ impl Figure {
     }
 
     fn ratio(&self, side: &str, other: &str) -> f64 {
-        median(&self.ratios(side, other))
+        middle(&self.ratios(side, other))
     }
 
-    /// The fastest of these, by our ratio.
-    fn fastest<'a>(&self, of: &[&'a str]) -> &'a str {
+    /// The one of these against which our ratio is the largest.
+    fn best<'a>(&self, of: &[&'a str]) -> &'a str {
         let ratio = |other: &&&str| self.ratio(OURS, other);
         of.iter().max_by(|a, b| ratio(a).total_cmp(&ratio(b))).expect("a side")
     }
 
     fn ours(&self, of: &[&str]) -> f64 {
-        self.ratio(OURS, self.fastest(of))
+        self.ratio(OURS, self.best(of))
     }
 
+    /// Our lowest and our highest ratio over the layouts.
     fn spread(&self) -> (f64, f64) {
-        let ratios = self.ratios(OURS, self.fastest(BY_CODE));
+        let ratios = self.ratios(OURS, self.best(BY_CODE));
         let lowest = ratios.iter().copied().fold(f64::INFINITY, f64::min);
         (lowest, ratios.iter().copied().fold(0.0, f64::max))
     }
 
     /// How far the ratio has risen since the library before.
     fn rise(&self) -> f64 {
-        let rust = self.fastest(BY_CODE);
+        let rust = self.best(BY_CODE);
         self.ratio(OURS, rust) - self.ratio(BEFORE, rust)
     }
 
@@ -67,23 +68,25 @@ impl Figure {
         if self.occupied { "*" } else { "" }
     }
 
-    /// Leaves out the layouts in which some side was never measured on a quiet core, unless it was so in all.
+    /// Leaves out the layouts in which some side was not measured on a quiet core, unless there are hardly any others.
     fn keep_quiet(&mut self, least: f64) {
-        let layouts = self.gauges.values().map(Vec::len).min().unwrap_or(0);
+        let layouts = self.sides.values().map(Vec::len).min().unwrap_or(0);
         let is_quiet = |layout: usize| self.gauges.values().all(|gauge| gauge[layout] < least * OCCUPIED);
         let quiet: Vec<usize> = (0..layouts).filter(|&layout| is_quiet(layout)).collect();
-        self.occupied = quiet.is_empty();
-        if !self.occupied {
+        self.occupied = quiet.len() * 2 < layouts;
+        if !quiet.is_empty() {
             self.sides.values_mut().for_each(|side| *side = quiet.iter().map(|&layout| side[layout]).collect());
         }
     }
 }
 
-fn median(numbers: &[f64]) -> f64 {
+/// The mean of the middle half. The layouts fall into two or three groups, between which a median would jump.
+fn middle(numbers: &[f64]) -> f64 {
     let mut sorted = numbers.to_vec();
     sorted.sort_by(f64::total_cmp);
-    let n = sorted.len();
-    (sorted[(n - 1) / 2] + sorted[n / 2]) / 2.0
+    let cut = sorted.len() / 4;
+    let middle = &sorted[cut..sorted.len() - cut];
+    middle.iter().sum::<f64>() / middle.len() as f64
 }
 
 fn number(text: &str) -> f64 {
@@ -96,20 +99,22 @@ fn figure<'a>(figures: &'a mut Vec<Figure>, row: &str, length: &str) -> &'a mut 
     let at = figures.iter().position(|figure| figure.row == row && figure.length == length);
     let at = at.unwrap_or_else(|| {
         let row = row.to_string();
-        figures.push(Figure { row, length, ..Figure::default() });
+        figures.push(Figure {
+            row,
+            length,
+            ..Figure::default()
+        });
         figures.len() - 1
     });
     &mut figures[at]
 }
 
 /// A table with a row for each row of the figures and a column for each length.
-fn print_table(figures: &[Figure], more: &str, cell: impl Fn(&Figure) -> String, last: impl Fn(&Figure) -> String) {
-    println!("\n| Curve | One height | Strip of 2 | of 64 | of 512 | of 4,096 |{more}");
-    println!("|---|---|---|---|---|---|{}", if more.is_empty() { "" } else { "---|" });
+fn print_table(figures: &[Figure], title: &str, cell: impl Fn(&Figure) -> String) {
+    println!("{title}\n\n| Curve | One height | Strip of 2 | of 64 | of 512 | of 4,096 |\n|---|---|---|---|---|---|");
     for row in figures.chunk_by(|a, b| a.row == b.row) {
         let cells: String = row.iter().map(|figure| format!(" {}{} |", cell(figure), figure.star())).collect();
-        let missing = " |".repeat(5 - row.len());
-        println!("| {} |{cells}{missing}{}", row[0].row, last(row.last().expect("a figure")));
+        println!("| {} |{cells}{}", row[0].row, " |".repeat(5 - row.len()));
     }
     println!();
 }
@@ -117,56 +122,53 @@ fn print_table(figures: &[Figure], more: &str, cell: impl Fn(&Figure) -> String,
 /// The figure in which this is the largest.
 fn largest(figures: &[Figure], of: impl Fn(&Figure) -> f64) -> String {
     let largest = figures.iter().max_by(|a, b| of(a).total_cmp(&of(b))).expect("a figure");
-    format!("{:.2} ({})", of(largest), largest.name())
+    format!("{:.2} ({}{})", of(largest), largest.name(), largest.star())
+}
+
+fn print_forms(figures: &[Figure], what: &str) {
+    let title = format!("Ratio of {what} against the Rust in each form: called, inlined, compiled for one curve");
+    let cell = |figure: &Figure| [CALLED, INLINED, KNOWN].map(|form| format!("{:.2}", figure.ours(form))).join(" ");
+    print_table(figures, &title, cell);
 }
 
 fn print_times(figures: &[Figure]) {
-    println!("Time of ours as a part of the Rust's, the median of the layouts, with the lowest and the highest; the Rust is a function of the code.");
-    let cell = |figure: &Figure| {
+    print_table(figures, "Time of ours as a part of the Rust's, and the lowest and the highest of the layouts", |figure| {
         let (lowest, highest) = figure.spread();
         format!("{:.2} ({lowest:.2}..{highest:.2})", figure.ours(BY_CODE))
-    };
-    let sample = |figure: &Figure| match figure.length {
-        1 => " |".to_string(),
-        n => format!(" {:.1} |", median(&figure.sides[OURS]) * 1e9 / n as f64),
-    };
-    print_table(figures, " Ours, ns a sample of 4,096 |", cell, sample);
-    println!("The same where the Rust is compiled for one curve.");
-    print_table(figures, "", |figure| format!("{:.2}", figure.ours(KNOWN)), |_| String::new());
+    });
+    print_table(figures, "Nanoseconds a sample, ours", |figure| {
+        format!("{:.1}", middle(&figure.sides[OURS]) * 1e9 / figure.length as f64)
+    });
+    print_forms(figures, "times");
 }
 
 fn print_counts(figures: &[Figure]) {
-    println!("Instructions of a call: ours, the Rust's, and the ratio; the Rust is a function of the code.");
-    let cell = |figure: &Figure| {
+    print_table(figures, "Instructions of a call: ours, the Rust's, and the ratio", |figure| {
         let digits = if figure.length == 1 { 1 } else { 0 };
-        let [ours, theirs] = [OURS, figure.fastest(BY_CODE)].map(|side| figure.sides[side][0]);
+        let [ours, theirs] = [OURS, figure.best(BY_CODE)].map(|side| figure.sides[side][0]);
         format!("{ours:.digits$} {theirs:.digits$} {:.2}", ours / theirs)
-    };
-    print_table(figures, "", cell, |_| String::new());
-    println!("The ratio where the Rust is compiled for one curve.");
-    print_table(figures, "", |figure| format!("{:.2}", figure.ours(KNOWN)), |_| String::new());
+    });
+    print_forms(figures, "instructions");
 }
 
 fn print_rises(figures: &[Figure], what: &str) {
-    println!("The ratio of {what} before and after, and how far it rose; the Rust is a function of the code.");
-    let cell = |figure: &Figure| {
-        let rust = figure.fastest(BY_CODE);
+    print_table(figures, &format!("Ratio of {what} before and after, and how far it rose"), |figure| {
+        let rust = figure.best(BY_CODE);
         let [before, after] = [BEFORE, OURS].map(|side| figure.ratio(side, rust));
         format!("{before:.2} {after:.2} {:+.2}", after - before)
-    };
-    print_table(figures, "", cell, |_| String::new());
+    });
 }
 
-/// The time of our strips, and of a step, or of a sample where there are none.
+/// The time of our strips, and of a step, or of a sample where there are none. A figure's only side is named by its steps.
 fn print_growth(growth: &[Figure]) {
-    println!("How our strip's cost grows.\n");
+    println!("How our strip's cost grows\n");
     println!("| LFO 1 | Samples | Steps | Microseconds | Nanoseconds a step (a sample where there are none) |");
     println!("|---|---|---|---|---|");
     for figure in growth {
         for (steps, times) in &figure.sides {
-            let (n, time) = (figure.length, median(times));
+            let (row, n, star, time) = (&figure.row, figure.length, figure.star(), middle(times));
             let parts = if steps == "0" { n as f64 } else { number(steps) };
-            println!("| {} | {n} | {steps} | {:.2}{} | {:.2} |", figure.row, time * 1e6, figure.star(), time * 1e9 / parts);
+            println!("| {row} | {n} | {steps} | {:.2}{star} | {:.2} |", time * 1e6, time * 1e9 / parts);
         }
     }
     println!();
@@ -203,7 +205,7 @@ pub fn print(files: &[String]) {
         }
         for line in text.lines() {
             let [what, row, length, side, time, gauge] = line.split('\t').collect::<Vec<_>>()[..] else {
-                panic!("a line of {file} is not a figure: {line}")
+                panic!("a line of {file} is no figure: {line}")
             };
             let figure = figure(if what == "time" { &mut times } else { &mut growth }, row, length);
             figure.sides.entry(side.to_string()).or_default().push(number(time));
@@ -225,18 +227,17 @@ pub fn print(files: &[String]) {
         measured.iter().for_each(|(figures, what)| print_rises(figures, what));
     }
     if !times.is_empty() {
-        let spread = |figure: &Figure| figure.spread().1 - figure.spread().0;
-        println!("The largest spread over the layouts: {}.", largest(&times, spread));
+        println!("The largest spread over the layouts: {}.", largest(&times, |figure| figure.spread().1 - figure.spread().0));
         let occupied = times.iter().filter(|figure| figure.occupied).count();
-        if occupied > 0 {
-            println!("{occupied} of {} figures, marked *, were never measured on a quiet core, and say little.", times.len());
+        println!("Figures with a quiet core in less than half of the layouts, marked *: {occupied} of {}.", times.len());
+    }
+    for (figures, what) in &measured {
+        for rust in BY_CODE.iter().chain(KNOWN) {
+            println!("The largest ratio of {what} against {rust}: {}.", largest(figures, |figure| figure.ratio(OURS, rust)));
         }
     }
     for (figures, what) in &measured {
         println!("The largest ratio of {what}: {}.", largest(figures, |figure| figure.ours(BY_CODE)));
-        for rust in BY_CODE.iter().chain(KNOWN) {
-            println!("- against {rust}: {}", largest(figures, |figure| figure.ratio(OURS, rust)));
-        }
     }
     if cfg!(before) {
         for (figures, what) in measured {

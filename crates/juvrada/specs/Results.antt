@@ -40,23 +40,23 @@ abbrev pub answerNumber : Answer → ℕ
 answerNumber Accepted = 0
 answerNumber (Refused why) = refusalNumber why
 
-abbrev pub heightResult : HeightAnswer → HeightResult
+unfoldable pub heightResult : HeightAnswer → HeightResult
 heightResult (AHeight h) = record { refusal = 0; steps = h .steps; height = h .height }
 heightResult (NoHeight why) = record { refusal = refusalNumber why; steps = 0; height = zero₃₂ }
 
-abbrev pub stripResult : StripAnswer → StripResult
+unfoldable pub stripResult : StripAnswer → StripResult
 stripResult (Filled n) = record { refusal = 0; steps = n }
 stripResult (NoStrip why) = record { refusal = refusalNumber why; steps = 0 }
 
-abbrev pub restResult : RestAnswer → RestResult
+unfoldable pub restResult : RestAnswer → RestResult
 restResult (Rest x) = record { refusal = 0; level = x }
 restResult (NoRest why) = record { refusal = refusalNumber why; level = zero₃₂ }
 
-abbrev pub scaleResult : ScaleAnswer → ScaleResult
+unfoldable pub scaleResult : ScaleAnswer → ScaleResult
 scaleResult (AScale s) = record { refusal = 0; kind = scaleNumber s; number = scaleValue s }
 scaleResult (NoScale why) = record { refusal = refusalNumber why; kind = 0; number = zero₃₂ }
 
-abbrev pub anchoredResult : AnchoredAnswer → AnchoredResult
+unfoldable pub anchoredResult : AnchoredAnswer → AnchoredResult
 anchoredResult (Anchored b) = record { refusal = 0; anchored = cond b 1 0 }
 anchoredResult (NoAnchor why) = record { refusal = refusalNumber why; anchored = 0 }
 

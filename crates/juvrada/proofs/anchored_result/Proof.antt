@@ -5,6 +5,7 @@ use Rattle.juvrada.proofs.anchored_result.Statement.{statement}
 use Rattle.juvrada.proofs.anchored_result.Tie as tie
 
 pub anchored-result-spec : {M : Type 1} → statement M
+unfolding anchoredResult
 anchored-result-spec =
     tie.close
     (tie.spec

@@ -5,6 +5,7 @@ use Rattle.juvrada.proofs.scale_result.Statement.{statement}
 use Rattle.juvrada.proofs.scale_result.Tie as tie
 
 pub scale-result-spec : {M : Type 1} → statement M
+unfolding scaleResult
 scale-result-spec =
     tie.close
     (tie.spec
