@@ -13,11 +13,13 @@ use Rattle.codes.specs.declared.Code.{Code}
 use Rattle.codes.specs.declared.CodeRead.the-variants.{Known}
 use Rattle.block.specs.declared.Chosen.{Chosen}
 use Rattle.block.specs.declared.Chosen.the-variants.{Generator as AGenerator, Refused}
-use Rattle.block.specs.declared.StripAnswer.{StripAnswer}
+use Rattle.block_strip.specs.declared.StripAnswer.{StripAnswer}
 use Rattle.codes.specs.Codes.{codeOf}
 use Rattle.codes.specs.Bytes.{byteAt, blockLength}
 use Rattle.block.specs.Shapes.{shapeOf}
-use Rattle.block.specs.Refusals.{chosenOf, stripAnswer, stripAfter}
+use Rattle.block.specs.Refusals.{chosenOf}
+use Rattle.block_strip.specs.Strips.{stripAfter}
+use Rattle.block_strip.specs.Strips.{stripAnswer}
 use Rattle.block.proofs.KnownCode.{known-chosen}
 use Rattle.block.proofs.EveryCode.{block-height}
 use Rattle.api.specs.Promises.{Sampled, StripAnswered}

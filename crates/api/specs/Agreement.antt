@@ -3,7 +3,9 @@ use mathlib.Core.Path.{_≡_}
 use mathlib.Core.List.{List}
 use Prim.Native.Nat.{ℕ}
 use lib.Ieee.{Float}
-use Rattle.block.specs.Refusals.{chosenOf, heightAnswer, stripAnswer, stripAfter}
+use Rattle.block.specs.Refusals.{chosenOf, heightAnswer}
+use Rattle.block_strip.specs.Strips.{stripAfter}
+use Rattle.block_strip.specs.Strips.{stripAnswer}
 use Rattle.api.specs.Answers.{settingsAnswer, captionsAfter, marksAnswer, restAnswer, scaleAnswer, anchoredAnswer}
 
 -- Two blocks give a code the same answers throughout.

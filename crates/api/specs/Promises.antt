@@ -16,10 +16,12 @@ use Rattle.taps.specs.Exact.{tapsHeightℚ}
 use Rattle.strip.specs.Strip.{samplePosition, lengthFits}
 use Rattle.codes.specs.declared.Code.{Code}
 use Rattle.codes.specs.declared.CodeRead.the-variants.{Known}
-use Rattle.block.specs.declared.StripAnswer.{StripAnswer}
+use Rattle.block_strip.specs.declared.StripAnswer.{StripAnswer}
 use Rattle.codes.specs.Codes.{codeOf}
 use Rattle.codes.specs.Bytes.{byteAt, blockLength}
-use Rattle.block.specs.Refusals.{chosenOf, stripAnswer, stripAfter}
+use Rattle.block.specs.Refusals.{chosenOf}
+use Rattle.block_strip.specs.Strips.{stripAfter}
+use Rattle.block_strip.specs.Strips.{stripAnswer}
 use Rattle.block.specs.Promises.{CodePromised}
 
 -- ---- of a strip

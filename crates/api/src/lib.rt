@@ -9,8 +9,8 @@ ghost use Rattle.api.specs.Promises.{StripAnswered, TapsAnswered};
 use block::BLOCK;
 use block::Chosen;
 use block::HeightAnswer;
-use block::StripAnswer;
 use block::choose;
+use block_strip::StripAnswer;
 use captions::Captioned;
 use codes::GATE_TIME;
 use curve::Height;
@@ -129,7 +129,7 @@ pub fn anchored(block: &[u8], code: u32) -> AnchoredAnswer
 pub fn strip(block: &[u8], code: u32, out: &mut [f32]) -> StripAnswer
     ensures { λ r. ⌜ StripAnswered (now (block .entry)) code (now (out .entry)) (now (out .exit)) r ⌝ }
 {
-    block::strip(block, code, out)
+    block_strip::strip(block, code, out)
 }
 
 // Fills the slice with the caption of each sample. What is refused leaves it as it was.

@@ -7,9 +7,8 @@ use lib.ListN.{length}
 use lib.Ieee.{Float}
 use Rattle.generator.specs.Generator.{generatorOf}
 use Rattle.generator.specs.Heights.{heightOf}
-use Rattle.strip.specs.Strip.{lengthFits, stepsOf, stripOf}
 use Rattle.refusals.specs.declared.Refusal.{Refusal}
-use Rattle.refusals.specs.declared.Refusal.the-variants.{Block, Code, Strip}
+use Rattle.refusals.specs.declared.Refusal.the-variants.{Block, Code}
 use Rattle.codes.specs.declared.CodeRead.{CodeRead}
 use Rattle.codes.specs.declared.CodeRead.the-variants.{Known, Above}
 use Rattle.block.specs.declared.Settled.{Settled}
@@ -18,8 +17,6 @@ use Rattle.block.specs.declared.Chosen.{Chosen}
 use Rattle.block.specs.declared.Chosen.the-variants.{Generator as AGenerator, Refused}
 use Rattle.block.specs.declared.HeightAnswer.{HeightAnswer}
 use Rattle.block.specs.declared.HeightAnswer.the-variants.{Height as AHeight, Refused as NoHeight}
-use Rattle.block.specs.declared.StripAnswer.{StripAnswer}
-use Rattle.block.specs.declared.StripAnswer.the-variants.{Filled as AStrip, Refused as NoStrip}
 use Rattle.codes.specs.Codes.{codeOf}
 use Rattle.codes.specs.Bytes.{byteAt, blockLength}
 use Rattle.block.specs.Shapes.{shapeOf}
@@ -44,13 +41,3 @@ chosenOf block code = chosenBy (settledOf block code) (byteAt block)
 unfoldable pub heightAnswer : Chosen → Float → HeightAnswer
 heightAnswer (AGenerator g) t = AHeight (heightOf (g .shape) t)
 heightAnswer (Refused r) t = NoHeight r
-
--- A strip of n samples: the sum of their steps, or the refusal of its length, which is the last to be looked for.
-unfoldable pub stripAnswer : Chosen → ℕ → StripAnswer
-stripAnswer (AGenerator g) n = cond (lengthFits n) (AStrip (stepsOf (g .shape) n)) (NoStrip Strip)
-stripAnswer (Refused r) n = NoStrip r
-
--- What the strip holds afterwards.
-unfoldable pub stripAfter : Chosen → List Float → List Float
-stripAfter (AGenerator g) before = stripOf (g .shape) before
-stripAfter (Refused r) before = before

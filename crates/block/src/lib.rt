@@ -1,13 +1,11 @@
-// A block of a program's bytes and a generator's code, read as a generator or refused; the height and the strip of what is read.
+// A block of a program's bytes and a generator's code, read as a generator or refused, and the height of what is read.
 ghost use mathlib.Core.Path.{_≡_};
-ghost use Prim.Native.Nat.{_≤_};
 ghost use lib.ListN.{length};
 ghost use Rattle.settings.specs.Settings.{fadeOf};
 ghost use Rattle.generator.specs.Heights.{heightOf};
-ghost use Rattle.strip.specs.Strip.{filledOf, stepSum};
 ghost use Rattle.codes.specs.Bytes.{byteAt, blockLength, envelopeFirst, lfoFirst, fadeByte};
 ghost use Rattle.block.specs.Shapes.{envelopeAt, lfoAt, oscillatorAt, shapeOf};
-ghost use Rattle.block.specs.Refusals.{settledOf, chosenOf, stripAnswer, stripAfter};
+ghost use Rattle.block.specs.Refusals.{settledOf, chosenOf};
 ghost use Rattle.block.specs.Promises.{HeightAnswered};
 use codes::Code;
 use codes::CodeRead;
@@ -49,13 +47,6 @@ use settings::low_pass_from;
 use settings::noise_from;
 use settings::oscillator_one_from;
 use settings::oscillator_two_from;
-use strip::fill_envelope;
-use strip::fill_fade;
-use strip::fill_filter;
-use strip::fill_lfo;
-use strip::fill_noise;
-use strip::fill_oscillator;
-use strip::fits;
 
 // What a block and a code's number come to.
 pub enum Settled {
@@ -73,18 +64,12 @@ pub enum HeightAnswer {
     Refused(Refusal),
 }
 
-// The sum of the samples' steps.
-pub enum StripAnswer {
-    Filled(u32),
-    Refused(Refusal),
-}
-
 // The bytes of a block.
 pub const BLOCK: usize = 242;
 
 // ---- settings, from the bytes of a whole block
 // The four times and levels from a byte on; one byte between them and their curves is not read.
-fn envelope_at(block: &[u8], id: EnvelopeId) -> Envelope
+pub fn envelope_at(block: &[u8], id: EnvelopeId) -> Envelope
     requires { ⌜ length (now block) ≡ blockLength ⌝ }
     ensures { λ r. ⌜ r ≡ envelopeAt (byteAt (now (block .entry))) (envelopeFirst id) ⌝ }
 {
@@ -102,7 +87,7 @@ fn envelope_at(block: &[u8], id: EnvelopeId) -> Envelope
 }
 
 // An LFO's shape, its slew and its key sync.
-fn lfo_at(block: &[u8], id: LfoId, unipolar: bool) -> Lfo
+pub fn lfo_at(block: &[u8], id: LfoId, unipolar: bool) -> Lfo
     requires { ⌜ length (now block) ≡ blockLength ⌝ }
     ensures { λ r. ⌜ r ≡ lfoAt (byteAt (now (block .entry))) (lfoFirst id) unipolar ⌝ }
 {
@@ -110,7 +95,7 @@ fn lfo_at(block: &[u8], id: LfoId, unipolar: bool) -> Lfo
     lfo_from(block[from], block[from + 4], block[from + 1], unipolar)
 }
 
-fn fade_at(block: &[u8], id: LfoId) -> Fade
+pub fn fade_at(block: &[u8], id: LfoId) -> Fade
     requires { ⌜ length (now block) ≡ blockLength ⌝ }
     ensures { λ r. ⌜ r ≡ fadeOf (byteAt (now (block .entry)) (fadeByte id)) ⌝ }
 {
@@ -118,7 +103,7 @@ fn fade_at(block: &[u8], id: LfoId) -> Fade
     fade_from(block[from])
 }
 
-fn oscillator_at(block: &[u8], id: OscillatorId) -> Oscillator
+pub fn oscillator_at(block: &[u8], id: OscillatorId) -> Oscillator
     requires { ⌜ length (now block) ≡ blockLength ⌝ }
     ensures { λ r. ⌜ r ≡ oscillatorAt (byteAt (now (block .entry))) id ⌝ }
 {
@@ -167,23 +152,6 @@ fn height_at(block: &[u8], code: Code, t: f32) -> Height
     }
 }
 
-// The strip of a code's shape, which is never stored here either. The caller has tested both lengths.
-pub fn strip_at(block: &[u8], code: Code, out: &mut [f32]) -> u32
-    requires { ⌜ (length (now block) ≡ blockLength) × (2 ≤ length (now out)) × (length (now out) ≤ 4096) ⌝ }
-    ensures { λ r. ⌜ (r ≡ stepSum (shapeOf code (byteAt (now (block .entry)))) (length (now (out .entry))) (length (now (out .entry)))) × (now (out .exit) ≡ filledOf (shapeOf code (byteAt (now (block .entry)))) (length (now (out .entry))) (length (now (out .entry))) (now (out .entry))) ⌝ }
-{
-    match code {
-        Code::Envelope(id) => fill_envelope(envelope_at(block, id), out),
-        Code::Lfo(id) => fill_lfo(lfo_at(block, id, false), out),
-        Code::LfoUnipolar(id) => fill_lfo(lfo_at(block, id, true), out),
-        Code::Fade(id) => fill_fade(fade_at(block, id), out),
-        Code::LowPass => fill_filter(low_pass_from(block[RESONANCE], block[POLE]), out),
-        Code::HighPass => fill_filter(high_pass(), out),
-        Code::Oscillator(id) => fill_oscillator(oscillator_at(block, id), out),
-        Code::Noise => fill_noise(noise_from(block[NOISE_LEVEL]), out),
-    }
-}
-
 // ---- the block's length is tested first, then the code
 pub fn settle(block: &[u8], code: u32) -> Settled
     ensures { λ r. ⌜ r ≡ settledOf (now (block .entry)) code ⌝ }
@@ -224,22 +192,5 @@ pub fn height(block: &[u8], code: u32, t: f32) -> HeightAnswer
             })
         }
         Settled::Refused(r) => HeightAnswer::Refused(r),
-    }
-}
-
-// The strip of what is settled, from the left edge to the right; its length is tested last. What is refused leaves it as it was.
-pub fn strip(block: &[u8], code: u32, out: &mut [f32]) -> StripAnswer
-    ensures { λ r. ⌜ (r ≡ stripAnswer (chosenOf (now (block .entry)) code) (length (now (out .entry)))) × (now (out .exit) ≡ stripAfter (chosenOf (now (block .entry)) code) (now (out .entry))) ⌝ }
-{
-    let settled = settle(block, code);
-    match settled {
-        Settled::Known(c) => {
-            if !fits(out.len()) {
-                return StripAnswer::Refused(Refusal::Strip);
-            }
-            let steps = strip_at(block, c, out);
-            StripAnswer::Filled(steps)
-        }
-        Settled::Refused(r) => StripAnswer::Refused(r),
     }
 }

@@ -9,7 +9,7 @@ use Rattle.lists.specs.Written.{written}
 use Rattle.abi.specs.Arrays.{markPosition, markKind, marksUsed, gateStart, gateEnd, gatesUsed}
 use Rattle.block.specs.declared.HeightAnswer.{HeightAnswer}
 use Rattle.block.specs.declared.HeightAnswer.the-variants.{Height as AHeight}
-use Rattle.block.specs.declared.StripAnswer.{StripAnswer}
+use Rattle.block_strip.specs.declared.StripAnswer.{StripAnswer}
 use Rattle.api.specs.declared.MarksAnswer.{MarksAnswer}
 use Rattle.api.specs.declared.GatesAnswer.{GatesAnswer}
 use Rattle.block.specs.Promises.{HeightAnswered}

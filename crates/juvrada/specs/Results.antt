@@ -18,8 +18,8 @@ use Rattle.api.specs.declared.Answer.{Answer}
 use Rattle.api.specs.declared.Answer.the-variants.{Accepted, Refused}
 use Rattle.block.specs.declared.HeightAnswer.{HeightAnswer}
 use Rattle.block.specs.declared.HeightAnswer.the-variants.{Height as AHeight, Refused as NoHeight}
-use Rattle.block.specs.declared.StripAnswer.{StripAnswer}
-use Rattle.block.specs.declared.StripAnswer.the-variants.{Filled, Refused as NoStrip}
+use Rattle.block_strip.specs.declared.StripAnswer.{StripAnswer}
+use Rattle.block_strip.specs.declared.StripAnswer.the-variants.{Filled, Refused as NoStrip}
 use Rattle.api.specs.declared.RestAnswer.{RestAnswer}
 use Rattle.api.specs.declared.RestAnswer.the-variants.{Rest, Refused as NoRest}
 use Rattle.api.specs.declared.ScaleAnswer.{ScaleAnswer}

@@ -23,7 +23,7 @@ use api::RestAnswer;
 use api::ScaleAnswer;
 use api::SettingsAnswer;
 use block::HeightAnswer;
-use block::StripAnswer;
+use block_strip::StripAnswer;
 use generator::GATES_DRAWN;
 use generator::MAX_MARKS;
 use generator::scale_number;

@@ -22,7 +22,9 @@ use Rattle.text.specs.Text.{ascii}
 use Rattle.text.specs.Spelled.{decimalOf}
 use Rattle.dials.specs.Dials.{dialsOf, onlyDial}
 use Rattle.panel.specs.Labels.{subtitleText}
-use Rattle.panel.specs.Pieces.{titleText, frameText, restText, marksText, curveText, olderCurveText, barsText, stepsText}
+use Rattle.panel.specs.Pieces.{titleText, frameText, restText, curveText, olderCurveText}
+use Rattle.panel_marks.specs.Rules.{marksText}
+use Rattle.panel_marks.specs.Bars.{barsText, stepsText}
 
 -- The start of panel k, at the lower left corner of its frame: five to a row, 56 mm apart and 60.5 mm below each other.
 unfoldable pub placeText : ℕ → List ℕ

@@ -11,7 +11,7 @@ ghost use Rattle.page.specs.Panels.{placeText, panelEnd, drawnText, olde
 ghost use Rattle.page.specs.Page.{nameEnd, styleText, headText, footText, pageOf, pageText};
 use block::BLOCK;
 use block::shape_at;
-use block::strip_at;
+use block_strip::strip_at;
 use codes::CODES;
 use codes::Code;
 use codes::CodeRead;
@@ -57,7 +57,7 @@ fn put_drawn(out: &mut [u8], at: usize, block: &[u8], code: Code) -> usize
     let g = of_shape(shape_at(block, code));
     let mut next = panel::put_subtitle(out, at, g.scale(), g.anchored());
     next = panel::put_rest(out, next, g.rest());
-    next = panel::put_marks(out, next, g.marks());
+    next = panel_marks::put_marks(out, next, g.marks());
     panel::put_curve(out, next, &heights)
 }
 
@@ -132,8 +132,8 @@ fn put_arpeggio(out: &mut [u8], at: usize, time: u8) -> usize
         next,
         b"<text y='-2600'>4 steps, left edge fixed</text>",
     );
-    next = panel::put_bars(out, next, bars);
-    next = panel::put_steps(out, next);
+    next = panel_marks::put_bars(out, next, bars);
+    next = panel_marks::put_steps(out, next);
     next = put_frame(out, next);
     next = dials::put_dial(out, next, b"Gate time", time);
     put_end(out, next)

@@ -1,7 +1,7 @@
 // What is refused, and what is not: the numbers of blocks, codes and strips about each limit.
 use crate::report;
 use block::HeightAnswer;
-use block::StripAnswer;
+use block_strip::StripAnswer;
 use refusals::refusal_number;
 
 // The refusal's number, and 0 for none.

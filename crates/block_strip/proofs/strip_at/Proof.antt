@@ -1,9 +1,9 @@
 -- `strip_at` fills with the heights of `shapeOf`, an arm for each kind of code. Assumes nothing.
 use Rattle.block.specs.Shapes.{shapeOf}
 use mathlib.Core.Path.{sym}
 use borrow.Author.Needs.{needs}
-use Rattle.block.proofs.strip_at.Statement.{statement}
-use Rattle.block.proofs.strip_at.Tie as tie
+use Rattle.block_strip.proofs.strip_at.Statement.{statement}
+use Rattle.block_strip.proofs.strip_at.Tie as tie
 
 -- src/lib.rt:171:1
 returns : tie.Need-returns

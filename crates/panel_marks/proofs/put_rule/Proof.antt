@@ -1,10 +1,10 @@
 -- `put_rule` writes `ruleText`. Assumes nothing.
 use mathlib.Core.Path.{refl}
 use Rattle.text.proofs.Writing.{_⨾_}
-use Rattle.panel.specs.Pieces.{ruleText}
+use Rattle.panel_marks.specs.Rules.{ruleText}
 use borrow.Author.Needs.{needs}
-use Rattle.panel.proofs.put_rule.Statement.{statement}
-use Rattle.panel.proofs.put_rule.Tie as tie
+use Rattle.panel_marks.proofs.put_rule.Statement.{statement}
+use Rattle.panel_marks.proofs.put_rule.Tie as tie
 
 returns : tie.Need-returns
 unfolding ruleText

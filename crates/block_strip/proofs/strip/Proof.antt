@@ -1,14 +1,15 @@
 -- `strip` answers as `stripAnswer` says and leaves what `stripAfter` says: a return for each refusal and one for the strip that is filled. Assumes nothing.
 use Rattle.block.proofs.KnownCode.{settled-length}
-use Rattle.block.specs.Refusals.{chosenBy, chosenOf, stripAnswer, stripAfter}
+use Rattle.block.specs.Refusals.{chosenBy, chosenOf}
+use Rattle.block_strip.specs.Strips.{stripAnswer, stripAfter}
 use Rattle.strip.proofs.Lengths.{between}
 use Rattle.strip.specs.Strip.{stepsOf, stripOf}
 use Rattle.generator.specs.Generator.{generatorOf}
 use borrow.Author.Tests.{not-true, not-false}
 use mathlib.Core.Path.{sym, _∙_}
 use borrow.Author.Needs.{needs}
-use Rattle.block.proofs.strip.Statement.{statement}
-use Rattle.block.proofs.strip.Tie as tie
+use Rattle.block_strip.proofs.strip.Statement.{statement}
+use Rattle.block_strip.proofs.strip.Tie as tie
 
 -- src/lib.rt:238:17
 returns : tie.Need-returns

@@ -1,10 +1,10 @@
 -- `put_bar` writes `barText`. Assumes nothing.
 use mathlib.Core.Path.{refl}
 use Rattle.text.proofs.Writing.{_⨾_}
-use Rattle.panel.specs.Pieces.{barText}
+use Rattle.panel_marks.specs.Bars.{barText}
 use borrow.Author.Needs.{needs}
-use Rattle.panel.proofs.put_bar.Statement.{statement}
-use Rattle.panel.proofs.put_bar.Tie as tie
+use Rattle.panel_marks.proofs.put_bar.Statement.{statement}
+use Rattle.panel_marks.proofs.put_bar.Tie as tie
 
 returns : tie.Need-returns
 unfolding barText

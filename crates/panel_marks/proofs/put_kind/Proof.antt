@@ -1,7 +1,7 @@
 -- `put_kind` writes `kindText`: a word by the number of the kind. Assumes nothing.
 use borrow.Author.Needs.{needs}
-use Rattle.panel.proofs.put_kind.Statement.{statement}
-use Rattle.panel.proofs.put_kind.Tie as tie
+use Rattle.panel_marks.proofs.put_kind.Statement.{statement}
+use Rattle.panel_marks.proofs.put_kind.Tie as tie
 
 -- src/lib.rt:144:1
 returns : tie.Need-returns

@@ -7,9 +7,9 @@ use borrow.Author.Needs.{needs}
 use lib.ListN.{length}
 use Rattle.text.specs.Text.{Puts}
 use Rattle.text.proofs.Writing.{_⨾_, puts-none}
-use Rattle.panel.specs.Pieces.{rulesText, marksText}
-use Rattle.panel.proofs.put_marks.Statement.{statement}
-use Rattle.panel.proofs.put_marks.Tie as tie
+use Rattle.panel_marks.specs.Rules.{rulesText, marksText}
+use Rattle.panel_marks.proofs.put_marks.Statement.{statement}
+use Rattle.panel_marks.proofs.put_marks.Tie as tie
 
 abbrev Inv-loop : tie.InvT-loop
 Inv-loop out₀ at marks count next₀ i₀ out next i = (i ≤ count) × (count ≤ 6) × (length out ≡ length out₀) × Puts out₀ at (rulesText marks i) out next

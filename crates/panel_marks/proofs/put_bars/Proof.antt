@@ -7,9 +7,9 @@ use borrow.Author.Needs.{needs}
 use lib.ListN.{length}
 use Rattle.text.specs.Text.{Puts}
 use Rattle.text.proofs.Writing.{_⨾_, puts-none}
-use Rattle.panel.specs.Pieces.{someBars, barsText}
-use Rattle.panel.proofs.put_bars.Statement.{statement}
-use Rattle.panel.proofs.put_bars.Tie as tie
+use Rattle.panel_marks.specs.Bars.{someBars, barsText}
+use Rattle.panel_marks.proofs.put_bars.Statement.{statement}
+use Rattle.panel_marks.proofs.put_bars.Tie as tie
 
 abbrev Inv-loop : tie.InvT-loop
 Inv-loop out₀ at bars count next₀ i₀ out next i = (i ≤ count) × (count ≤ 4) × (length out ≡ length out₀) × Puts out₀ at (someBars bars i) out next

@@ -1,0 +1,2 @@
+-- What a strip answers, and what it holds afterwards.
+pub mod Strips

@@ -1,0 +1,70 @@
+// The strip of a block and a code: heights from the left edge to the right, or a refusal.
+ghost use mathlib.Core.Path.{_≡_};
+ghost use Prim.Native.Nat.{_≤_};
+ghost use lib.ListN.{length};
+ghost use Rattle.strip.specs.Strip.{filledOf, stepSum};
+ghost use Rattle.codes.specs.Bytes.{byteAt, blockLength};
+ghost use Rattle.block.specs.Shapes.{shapeOf};
+ghost use Rattle.block.specs.Refusals.{chosenOf};
+ghost use Rattle.block_strip.specs.Strips.{stripAnswer, stripAfter};
+use block::Settled;
+use block::envelope_at;
+use block::fade_at;
+use block::lfo_at;
+use block::oscillator_at;
+use block::settle;
+use codes::Code;
+use codes::NOISE_LEVEL;
+use codes::POLE;
+use codes::RESONANCE;
+use refusals::Refusal;
+use settings::high_pass;
+use settings::low_pass_from;
+use settings::noise_from;
+use strip::fill_envelope;
+use strip::fill_fade;
+use strip::fill_filter;
+use strip::fill_lfo;
+use strip::fill_noise;
+use strip::fill_oscillator;
+use strip::fits;
+
+// The sum of the samples' steps.
+pub enum StripAnswer {
+    Filled(u32),
+    Refused(Refusal),
+}
+
+// The strip of a code's shape, which is never stored here either. The caller has tested both lengths.
+pub fn strip_at(block: &[u8], code: Code, out: &mut [f32]) -> u32
+    requires { ⌜ (length (now block) ≡ blockLength) × (2 ≤ length (now out)) × (length (now out) ≤ 4096) ⌝ }
+    ensures { λ r. ⌜ (r ≡ stepSum (shapeOf code (byteAt (now (block .entry)))) (length (now (out .entry))) (length (now (out .entry)))) × (now (out .exit) ≡ filledOf (shapeOf code (byteAt (now (block .entry)))) (length (now (out .entry))) (length (now (out .entry))) (now (out .entry))) ⌝ }
+{
+    match code {
+        Code::Envelope(id) => fill_envelope(envelope_at(block, id), out),
+        Code::Lfo(id) => fill_lfo(lfo_at(block, id, false), out),
+        Code::LfoUnipolar(id) => fill_lfo(lfo_at(block, id, true), out),
+        Code::Fade(id) => fill_fade(fade_at(block, id), out),
+        Code::LowPass => fill_filter(low_pass_from(block[RESONANCE], block[POLE]), out),
+        Code::HighPass => fill_filter(high_pass(), out),
+        Code::Oscillator(id) => fill_oscillator(oscillator_at(block, id), out),
+        Code::Noise => fill_noise(noise_from(block[NOISE_LEVEL]), out),
+    }
+}
+
+// The strip of what is settled, from the left edge to the right; its length is tested last. What is refused leaves it as it was.
+pub fn strip(block: &[u8], code: u32, out: &mut [f32]) -> StripAnswer
+    ensures { λ r. ⌜ (r ≡ stripAnswer (chosenOf (now (block .entry)) code) (length (now (out .entry)))) × (now (out .exit) ≡ stripAfter (chosenOf (now (block .entry)) code) (now (out .entry))) ⌝ }
+{
+    let settled = settle(block, code);
+    match settled {
+        Settled::Known(c) => {
+            if !fits(out.len()) {
+                return StripAnswer::Refused(Refusal::Strip);
+            }
+            let steps = strip_at(block, c, out);
+            StripAnswer::Filled(steps)
+        }
+        Settled::Refused(r) => StripAnswer::Refused(r),
+    }
+}

@@ -1,0 +1,3 @@
+-- The marks on a panel, and the bars of the arpeggio.
+pub mod Rules
+pub mod Bars

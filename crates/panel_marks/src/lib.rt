@@ -1,0 +1,128 @@
+// The marks on a panel, each a rule with what is at it, and the bars of the arpeggio.
+ghost use mathlib.Core.Path.{_≡_};
+ghost use Prim.Native.Nat.{_<_};
+ghost use Rattle.text.specs.Text.{Puts};
+ghost use Rattle.panel_marks.specs.Rules.{kindText, rowOf, ruleText, labelText, markText, marksText};
+ghost use Rattle.panel_marks.specs.Bars.{barText, barsText, stepsText};
+use fixed_point::nearest;
+use generator::GATES_DRAWN;
+use generator::Gate;
+use generator::Gates;
+use generator::MAX_MARKS;
+use generator::Mark;
+use generator::MarkKind;
+use generator::Marks;
+use generator::kind_number;
+use lists::at_most;
+use text::put;
+use text::put_decimal;
+use text::put_word;
+
+// ---- the marks
+fn put_kind(out: &mut [u8], at: usize, kind: MarkKind) -> usize
+    ensures { λ r. ⌜ Puts (now (out .entry)) at (kindText kind) (now (out .exit)) r ⌝ }
+{
+    let k = kind_number(kind);
+    put_word(
+        out,
+        at,
+        b" dx='50'>A</text>| dx='50'>D</text>| dx='50'>S</text>| dx='50'>R</text>| class='m'>corner</text>| class='m'>cycle</text>| class='m'>tap</text>| class='m'>width</text>| class='m'>sweep</text>",
+        k as usize,
+    )
+}
+
+fn row(k: usize, kind: MarkKind) -> usize
+    requires { ⌜ k < 6 ⌝ }
+    ensures { λ r. ⌜ (r ≡ rowOf k kind) × (r < 6) ⌝ }
+{
+    match kind {
+        MarkKind::Segment(_) => k,
+        MarkKind::Corner => k,
+        MarkKind::Cycle => 3,
+        MarkKind::Tap => k,
+        MarkKind::Width => k,
+        MarkKind::Sweep => k,
+    }
+}
+
+fn put_rule(out: &mut [u8], at: usize, row: usize, across: u64) -> usize
+    requires { ⌜ row < 6 ⌝ }
+    ensures { λ r. ⌜ Puts (now (out .entry)) at (ruleText row across) (now (out .exit)) r ⌝ }
+{
+    let mut next = put(out, at, b"<path class='v' d='M");
+    next = put_decimal(out, next, across);
+    next = put(out, next, b"-2500V");
+    next = put_decimal(out, next, 40 + 230 * row as u64);
+    put(out, next, b"'/>")
+}
+
+fn put_label(out: &mut [u8], at: usize, row: usize, across: u64, kind: MarkKind) -> usize
+    requires { ⌜ row < 6 ⌝ }
+    ensures { λ r. ⌜ Puts (now (out .entry)) at (labelText row across kind) (now (out .exit)) r ⌝ }
+{
+    let mut next = put(out, at, b"<text x='");
+    next = put_decimal(out, next, across);
+    next = put(out, next, b"' y='");
+    next = put_decimal(out, next, 220 + 230 * row as u64);
+    next = put(out, next, b"'");
+    put_kind(out, next, kind)
+}
+
+fn put_mark(out: &mut [u8], at: usize, row: usize, mark: Mark) -> usize
+    requires { ⌜ row < 6 ⌝ }
+    ensures { λ r. ⌜ Puts (now (out .entry)) at (markText row mark) (now (out .exit)) r ⌝ }
+{
+    let across = nearest(mark.at, 5000);
+    let kind = mark.kind;
+    let next = put_rule(out, at, row, across);
+    put_label(out, next, row, across, kind)
+}
+
+pub fn put_marks(out: &mut [u8], at: usize, marks: Marks) -> usize
+    ensures { λ r. ⌜ Puts (now (out .entry)) at (marksText marks) (now (out .exit)) r ⌝ }
+{
+    let count = at_most(marks.count, MAX_MARKS);
+    let mut next = at;
+    let mut i: usize = 0;
+    while i < count {
+        let mark = marks.places[i];
+        let kind = mark.kind;
+        next = put_mark(out, next, row(i, kind), mark);
+        i += 1;
+    }
+    next
+}
+
+// ---- the bars of the arpeggio
+fn put_bar(out: &mut [u8], at: usize, bar: Gate) -> usize
+    ensures { λ r. ⌜ Puts (now (out .entry)) at (barText bar) (now (out .exit)) r ⌝ }
+{
+    let mut next = put(out, at, b"<path class='g' d='M");
+    next = put_decimal(out, next, nearest(bar.start / 4.0, 5000));
+    next = put(out, next, b" 0V-1500H");
+    next = put_decimal(out, next, nearest(bar.end / 4.0, 5000));
+    put(out, next, b"V0Z'/>")
+}
+
+pub fn put_bars(out: &mut [u8], at: usize, bars: Gates) -> usize
+    ensures { λ r. ⌜ Puts (now (out .entry)) at (barsText bars) (now (out .exit)) r ⌝ }
+{
+    let count = at_most(bars.count, GATES_DRAWN);
+    let mut next = at;
+    let mut i: usize = 0;
+    while i < count {
+        next = put_bar(out, next, bars.places[i]);
+        i += 1;
+    }
+    next
+}
+
+pub fn put_steps(out: &mut [u8], at: usize) -> usize
+    ensures { λ r. ⌜ Puts (now (out .entry)) at stepsText (now (out .exit)) r ⌝ }
+{
+    put(
+        out,
+        at,
+        b"<path class='v' d='M1250-2500V0M2500-2500V0M3750-2500V0'/><text class='m' x='625' y='220'>1</text><text class='m' x='1875' y='220'>2</text><text class='m' x='3125' y='220'>3</text><text class='m' x='4375' y='220'>4</text>",
+    )
+}
