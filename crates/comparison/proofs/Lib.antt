@@ -1,7 +1,5 @@
 -- What the loops need; blocks whose bytes agree; that the largest difference is the largest.
-pub mod ByteLines
 pub mod SameBytes
 pub mod Steps
 pub mod Known
 pub mod Laws
-pub mod Examples

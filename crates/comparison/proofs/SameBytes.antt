@@ -10,7 +10,7 @@ use Rattle.codes.specs.declared.Code.{Code}
 use Rattle.codes.specs.Bytes.{Agree, bytesOf}
 use Rattle.block.specs.Shapes.{shapeOf}
 use Rattle.block.proofs.Agreement.{agreement}
-use Rattle.comparison.specs.Changes.{sameBytes, changeText, changesText}
+use Rattle.comparison_bytes.specs.Changes.{sameBytes, changeText, changesText}
 
 pub agree : (bytes : List ℕ) (a b : ℕ → ℕ) → sameBytes bytes a b ≡ true → Agree bytes a b
 unfolding sameBytes Agree

@@ -14,7 +14,7 @@ use Rattle.codes.specs.Bytes.{bytesOf, byteAt, gatesByte, blockLength}
 use Rattle.block.specs.Shapes.{shapeOf}
 use Rattle.rows.specs.Rows.{ninePlaces}
 use Rattle.labels.specs.Names.{titleOf}
-use Rattle.comparison.specs.Changes.{sameBytes, changesText}
+use Rattle.comparison_bytes.specs.Changes.{sameBytes, changesText}
 use Rattle.comparison.specs.declared.Largest.{Largest as ALargest}
 use Rattle.comparison.specs.Largest.{comparedSamples, positionAt, largestOf}
 

@@ -1,4 +1,3 @@
 -- What differs between two programs.
 pub mod Largest
-pub mod Changes
 pub mod Differences

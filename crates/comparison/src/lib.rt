@@ -1,6 +1,4 @@
 // What differs between two programs: a line for each generator and for the arpeggio's gates, with a line for each of their bytes that is not the same.
-mod bytes;
-
 ghost use mathlib.Core.Path.{_≡_};
 ghost use Prim.Native.Nat.{_≤_};
 ghost use lib.ListN.{length};
@@ -9,10 +7,6 @@ ghost use Rattle.codes.specs.Codes.{codeOf};
 ghost use Rattle.codes.specs.Bytes.{byteAt, blockLength};
 ghost use Rattle.comparison.specs.Largest.{differenceAt, largerOf, largestOf};
 ghost use Rattle.comparison.specs.Differences.{largestText, generatorText, codeText, codesText, gateText, codeCount, codesCount, gateCount, differencesText};
-use crate::bytes::put_changes;
-use crate::bytes::put_code_changes;
-use crate::bytes::same;
-use crate::bytes::same_bytes;
 use block::BLOCK;
 use block::shape_at;
 use codes::CODES;
@@ -21,6 +15,10 @@ use codes::CodeRead;
 use codes::GATE_TIME;
 use codes::code_from;
 use codes::code_number;
+use comparison_bytes::put_changes;
+use comparison_bytes::put_code_changes;
+use comparison_bytes::same;
+use comparison_bytes::same_bytes;
 use generator::Generator;
 use generator::of_shape;
 use labels::put_title;

@@ -20,7 +20,8 @@ use Rattle.codes.specs.Bytes.{blockLength, byteAt}
 use Rattle.block.specs.Shapes.{shapeOf}
 use Rattle.text.specs.Text.{ascii}
 use Rattle.text.specs.Spelled.{decimalOf}
-use Rattle.dials.specs.Dials.{dialsOf, onlyDial}
+use Rattle.dials.specs.Dials.{dialsOf}
+use Rattle.dial_lines.specs.Lines.{onlyDial}
 use Rattle.panel.specs.Labels.{subtitleText}
 use Rattle.panel.specs.Pieces.{titleText, frameText, restText, curveText, olderCurveText}
 use Rattle.panel_marks.specs.Rules.{marksText}

@@ -135,7 +135,7 @@ fn put_arpeggio(out: &mut [u8], at: usize, time: u8) -> usize
     next = panel_marks::put_bars(out, next, bars);
     next = panel_marks::put_steps(out, next);
     next = put_frame(out, next);
-    next = dials::put_dial(out, next, b"Gate time", time);
+    next = dial_lines::put_dial(out, next, b"Gate time", time);
     put_end(out, next)
 }
 

@@ -10,10 +10,10 @@ use Rattle.dials.proofs.envelope_dials.Tie as tie
 returns : tie.Need-returns
 unfolding envelopeDials
 returns c =
-    c .before .before .before .before .before .before .before .before .before .before .before .before .before .before .before .before .before .before .before .before .before .before .before .curved .ensures ⨾
-    c .before .before .before .before .before .before .before .before .before .before .before .before .before .before .before .before .curved2 .ensures ⨾
-    c .before .before .before .before .before .before .before .before .before .curved3 .ensures ⨾
-    c .before .before .curved4 .ensures
+    c .before .before .before .before .before .before .before .before .before .before .before .before .before .before .before .before .before .before .before .before .before .before .before .put-curved .ensures ⨾
+    c .before .before .before .before .before .before .before .before .before .before .before .before .before .before .before .before .put-curved2 .ensures ⨾
+    c .before .before .before .before .before .before .before .before .before .put-curved3 .ensures ⨾
+    c .before .before .put-curved4 .ensures
 
 pub envelope-dials-spec : {M : Type 1} → statement M
 envelope-dials-spec =

@@ -10,9 +10,9 @@ use Rattle.dials.proofs.lfo_dials.Tie as tie
 returns : tie.Need-returns
 unfolding lfoDials
 returns c =
-    c .before .before .before .before .before .before .before .before .before .before .before .before .before .before .shape .ensures ⨾
-    c .before .before .before .before .before .before .before .before .plain .ensures ⨾
-    c .before .before .switch .ensures
+    c .before .before .before .before .before .before .before .before .before .before .before .before .before .before .put-shape .ensures ⨾
+    c .before .before .before .before .before .before .before .before .put-plain .ensures ⨾
+    c .before .before .put-switch .ensures
 
 pub lfo-dials-spec : {M : Type 1} → statement M
 lfo-dials-spec =

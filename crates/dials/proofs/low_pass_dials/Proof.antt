@@ -10,8 +10,8 @@ use Rattle.dials.proofs.low_pass_dials.Tie as tie
 returns : tie.Need-returns
 unfolding lowPassDials
 returns c =
-    c .before .before .before .before .before .before .before .plain .ensures ⨾
-    c .before .before .poles .ensures
+    c .before .before .before .before .before .before .before .put-plain .ensures ⨾
+    c .before .before .put-poles .ensures
 
 pub low-pass-dials-spec : {M : Type 1} → statement M
 low-pass-dials-spec =

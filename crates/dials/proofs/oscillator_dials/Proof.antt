@@ -10,10 +10,10 @@ use Rattle.dials.proofs.oscillator_dials.Tie as tie
 returns : tie.Need-returns
 unfolding oscillatorDials
 returns c =
-    c .before .before .before .before .before .before .before .before .before .before .before .before .before .before .before .before .before .before .before .switch .ensures ⨾
-    c .before .before .before .before .before .before .before .before .before .before .before .before .before .switch2 .ensures ⨾
-    c .before .before .before .before .before .before .before .before .source .ensures ⨾
-    c .before .before .depth .ensures
+    c .before .before .before .before .before .before .before .before .before .before .before .before .before .before .before .before .before .before .before .put-switch .ensures ⨾
+    c .before .before .before .before .before .before .before .before .before .before .before .before .before .put-switch2 .ensures ⨾
+    c .before .before .before .before .before .before .before .before .put-source .ensures ⨾
+    c .before .before .put-depth .ensures
 
 pub oscillator-dials-spec : {M : Type 1} → statement M
 oscillator-dials-spec =

@@ -1,0 +1,27 @@
+-- `put_curved` writes `curvedDial`: its parts, one after the other. Assumes nothing.
+use mathlib.Core.Path.{refl}
+use Rattle.text.proofs.Writing.{_⨾_}
+use Rattle.dial_lines.specs.Lines.{curvedDial}
+use borrow.Author.Needs.{needs}
+use Rattle.dial_lines.proofs.put_curved.Statement.{statement}
+use Rattle.dial_lines.proofs.put_curved.Tie as tie
+
+returns : tie.Need-returns
+unfolding curvedDial
+returns c =
+    c .before .before .before .before .before .before .before .before .before .before .before .before .before .before .before .start .ensures ⨾
+    c .before .before .before .before .before .before .before .before .before .before .put .ensures ⨾
+    c .before .before .before .before .before .before .put-decimal .ensures ⨾
+    c .before .before .end .ensures
+
+pub put-curved-spec : {M : Type 1} → statement M
+put-curved-spec =
+    tie.close
+    (tie.spec
+    (λ c κs. search needs)
+    (λ c. refl)
+    (λ c κs. search needs)
+    (λ c κs. search needs)
+    (λ c κs. search needs)
+    (λ c. search needs)
+    returns)

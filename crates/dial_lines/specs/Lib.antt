@@ -1,0 +1,2 @@
+-- The lines that say what to dial in.
+pub mod Lines
