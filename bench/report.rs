@@ -37,8 +37,9 @@ impl Figure {
         self.sides[side].iter().zip(&self.sides[other]).map(|(a, b)| a / b).collect()
     }
 
+    /// The ratio of the mean times. The layouts fall into groups, by how the code lies in the lines of the cache, between which a median would jump.
     fn ratio(&self, side: &str, other: &str) -> f64 {
-        middle(&self.ratios(side, other))
+        mean(&self.sides[side]) / mean(&self.sides[other])
     }
 
     /// The one of these against which our ratio is the largest.
@@ -80,13 +81,8 @@ impl Figure {
     }
 }
 
-/// The mean of the middle half. The layouts fall into two or three groups, between which a median would jump.
-fn middle(numbers: &[f64]) -> f64 {
-    let mut sorted = numbers.to_vec();
-    sorted.sort_by(f64::total_cmp);
-    let cut = sorted.len() / 4;
-    let middle = &sorted[cut..sorted.len() - cut];
-    middle.iter().sum::<f64>() / middle.len() as f64
+fn mean(numbers: &[f64]) -> f64 {
+    numbers.iter().sum::<f64>() / numbers.len() as f64
 }
 
 fn number(text: &str) -> f64 {
@@ -137,7 +133,7 @@ fn print_times(figures: &[Figure]) {
         format!("{:.2} ({lowest:.2}..{highest:.2})", figure.ours(BY_CODE))
     });
     print_table(figures, "Nanoseconds a sample, ours", |figure| {
-        format!("{:.1}", middle(&figure.sides[OURS]) * 1e9 / figure.length as f64)
+        format!("{:.1}", mean(&figure.sides[OURS]) * 1e9 / figure.length as f64)
     });
     print_forms(figures, "times");
 }
@@ -166,7 +162,7 @@ fn print_growth(growth: &[Figure]) {
     println!("|---|---|---|---|---|");
     for figure in growth {
         for (steps, times) in &figure.sides {
-            let (row, n, star, time) = (&figure.row, figure.length, figure.star(), middle(times));
+            let (row, n, star, time) = (&figure.row, figure.length, figure.star(), mean(times));
             let parts = if steps == "0" { n as f64 } else { number(steps) };
             println!("| {row} | {n} | {steps} | {:.2}{star} | {:.2} |", time * 1e6, time * 1e9 / parts);
         }

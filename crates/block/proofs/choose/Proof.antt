@@ -6,16 +6,13 @@ use borrow.Author.Needs.{needs}
 use Rattle.block.proofs.choose.Statement.{statement}
 use Rattle.block.proofs.choose.Tie as tie
 
--- src/lib.rt:207:57
 shape-at-requires : tie.Need-shape-at-requires
 shape-at-requires c κs = settled-length _ _ _ (sym (c .before .settled .given .1) ∙ c .before .before .before .settle .ensures)
 
--- src/lib.rt:202:1
 returns : tie.Need-returns
 unfolding chosenOf chosenBy
 returns c = simp (sym (c .before .before .before .before .before .settle .ensures), c .before .before .before .settled .given .1, c .of-shape .ensures, c .before .shape-at .ensures)
 
--- src/lib.rt:202:1
 returns-2 : tie.Need-returns-2
 unfolding chosenOf chosenBy
 returns-2 c = simp (sym (c .before .before .before .settle .ensures), c .before .settled2 .given .1)

@@ -9,18 +9,15 @@ use borrow.Author.Needs.{needs}
 use Rattle.block.proofs.height.Statement.{statement}
 use Rattle.block.proofs.height.Tie as tie
 
--- src/lib.rt:219:17
 height-at-requires : tie.Need-height-at-requires
 height-at-requires c κs = settled-length _ _ _ (sym (c .before .settled .given .1) ∙ c .before .before .before .settle .ensures)
 
--- src/lib.rt:213:1
 returns : tie.Need-returns
 unfolding chosenOf chosenBy heightAnswer generatorOf
 returns c =
     height-answered _ _ _ _ (λ n. c .before .before .before .before .before .shared-slice-known .given n .fits) (subst T (sym (c .before .before .before .before .before .before .good .1 .1 .0 .1)) tt)
     (simp (sym (c .before .before .before .before .settle .ensures), c .before .before .settled .given .1, c .height-at .ensures))
 
--- src/lib.rt:213:1
 returns-2 : tie.Need-returns-2
 unfolding chosenOf chosenBy heightAnswer generatorOf
 returns-2 c =

@@ -6,17 +6,14 @@ use borrow.Author.Needs.{needs}
 use Rattle.block.proofs.settle.Statement.{statement}
 use Rattle.block.proofs.settle.Tie as tie
 
--- src/lib.rt:192:9
 returns : tie.Need-returns
 unfolding settledOf
 returns c = simp (ne-eqb _ _ (c .if1 .taken))
 
--- src/lib.rt:188:1
 returns-2 : tie.Need-returns-2
 unfolding settledOf settledBy
 returns-2 c = simp (eq-eqb _ _ (c .before .before .before .before .if1 .left), sym (c .before .before .before .code-read .ensures), c .before .read .given .1)
 
--- src/lib.rt:188:1
 returns-3 : tie.Need-returns-3
 unfolding settledOf settledBy
 returns-3 c = simp (eq-eqb _ _ (c .before .before .before .if1 .left), sym (c .before .before .code-read .ensures), c .enum-told .given .1)

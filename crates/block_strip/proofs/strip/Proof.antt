@@ -11,7 +11,6 @@ use borrow.Author.Needs.{needs}
 use Rattle.block_strip.proofs.strip.Statement.{statement}
 use Rattle.block_strip.proofs.strip.Tie as tie
 
--- src/lib.rt:238:17
 returns : tie.Need-returns
 unfolding chosenOf chosenBy stripAnswer stripAfter generatorOf stripOf
 returns c =
@@ -20,13 +19,11 @@ returns c =
     let length = sym (c .before .fits2 .ensures) ∙ not-true _ (c .if1 .taken) in
     (simp (settled, known, length), simp (settled, known, length))
 
--- src/lib.rt:240:17
 strip-at-requires : tie.Need-strip-at-requires
 strip-at-requires c κs =
     let l = between _ (c .before .before .fits2 .ensures) (c .before .if1 .left) in
     (settled-length _ _ _ (sym (c .before .before .before .before .settled .given .1) ∙ c .before .before .before .before .before .before .settle .ensures), l .0, l .1)
 
--- src/lib.rt:231:1
 returns-2 : tie.Need-returns-2
 unfolding chosenOf chosenBy stripAnswer stripAfter generatorOf stepsOf stripOf
 returns-2 c =
@@ -36,7 +33,6 @@ returns-2 c =
     let filled = c .before .before .strip-at .ensures in
     (simp (settled, known, length, filled .0), simp (settled, known, length, filled .1))
 
--- src/lib.rt:231:1
 returns-3 : tie.Need-returns-3
 unfolding chosenOf chosenBy stripAnswer stripAfter
 returns-3 c =

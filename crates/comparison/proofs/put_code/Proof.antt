@@ -8,12 +8,10 @@ use borrow.Author.Needs.{needs}
 use Rattle.comparison.proofs.put_code.Statement.{statement}
 use Rattle.comparison.proofs.put_code.Tie as tie
 
--- src/lib.rt:97:9
 returns : tie.Need-returns
 unfolding generatorText
 returns c = simp (sym (c .before .before .before .before .before .before .same .ensures) ∙ c .before .before .before .before .before .if1 .taken) (rw (c .before .before .before .before .before .before .before .before .before .before .code-number .ensures) at (c .before .before .before .before .before .before .before .before .before .put-title .ensures) ⨾ c .before .before .put .ensures)
 
--- src/lib.rt:91:1
 returns-2 : tie.Need-returns-2
 unfolding generatorText
 returns-2 c =

@@ -6,12 +6,10 @@ use borrow.Author.Needs.{needs}
 use Rattle.comparison.proofs.put_gate.Statement.{statement}
 use Rattle.comparison.proofs.put_gate.Tie as tie
 
--- src/lib.rt:136:9
 returns : tie.Need-returns
 unfolding gateText
 returns c = simp (sym (c .before .before .before .before .before .before .same-bytes .ensures) ∙ c .before .before .before .before .before .if1 .taken) (c .before .before .before .before .before .before .before .before .before .before .put-title .ensures ⨾ c .before .before .put .ensures)
 
--- src/lib.rt:131:1
 returns-2 : tie.Need-returns-2
 unfolding gateText
 returns-2 c = simp (sym (c .before .before .before .before .before .before .before .before .before .before .before .same-bytes .ensures) ∙ c .before .before .before .before .before .before .before .before .before .before .if1 .left) (c .before .before .before .before .before .before .before .before .before .before .before .before .before .before .before .put-title .ensures ⨾ (c .before .before .before .before .before .before .before .put2 .ensures ⨾ c .before .before .put-changes .ensures))

@@ -6,12 +6,10 @@ use borrow.Author.Needs.{needs}
 use Rattle.comparison.proofs.put_numbered.Statement.{statement}
 use Rattle.comparison.proofs.put_numbered.Tie as tie
 
--- src/lib.rt:106:1
 returns : tie.Need-returns
 unfolding codeText
 returns c = simp (sym (c .before .before .before .before .before .before .before .code-from .ensures), c .before .before .before .before .before .read .given .1) (c .before .before .put-code .ensures)
 
--- src/lib.rt:106:1
 returns-2 : tie.Need-returns-2
 unfolding codeText
 returns-2 c = simp (sym (c .before .before .code-from .ensures), c .enum-told .given .1) (puts-none _ _)

@@ -7,7 +7,6 @@ use borrow.Author.Needs.{needs}
 use Rattle.page.proofs.put_drawn.Statement.{statement}
 use Rattle.page.proofs.put_drawn.Tie as tie
 
--- src/lib.rt:51:1
 returns : tie.Need-returns
 unfolding drawnText generatorOf
 returns c =

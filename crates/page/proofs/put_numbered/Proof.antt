@@ -6,12 +6,10 @@ use borrow.Author.Needs.{needs}
 use Rattle.page.proofs.put_numbered.Statement.{statement}
 use Rattle.page.proofs.put_numbered.Tie as tie
 
--- src/lib.rt:99:1
 returns : tie.Need-returns
 unfolding panelText
 returns c = simp (sym (c .before .before .before .before .before .before .before .code-from .ensures), c .before .before .before .before .before .read .given .1) (c .before .before .put-panel .ensures)
 
--- src/lib.rt:99:1
 returns-2 : tie.Need-returns-2
 unfolding panelText codePanel
 returns-2 c = simp (sym (c .before .before .code-from .ensures), c .enum-told .given .1) (puts-none _ _)

@@ -9,16 +9,13 @@ use borrow.Author.Needs.{needs}
 use Rattle.page.proofs.put_older.Statement.{statement}
 use Rattle.page.proofs.put_older.Tie as tie
 
--- src/lib.rt:70:9
 returns : tie.Need-returns
 unfolding olderText
 returns c = let e = sym (c .before .before .before .pre) ∙ not-true _ (c .if1 .taken) in simp e (puts-none _ _)
 
--- src/lib.rt:73:5
 strip-at-requires : tie.Need-strip-at-requires
 strip-at-requires c κs = let e = sym (c .before .before .before .before .pre) ∙ not-false _ (c .before .if1 .left) in (eqb→eq _ _ (subst T (sym e) tt), search needs, search needs)
 
--- src/lib.rt:65:1
 returns-2 : tie.Need-returns-2
 unfolding olderText
 returns-2 c =

@@ -5,7 +5,6 @@ use borrow.Author.Needs.{needs}
 use Rattle.page.proofs.put_panel.Statement.{statement}
 use Rattle.page.proofs.put_panel.Tie as tie
 
--- src/lib.rt:77:1
 returns : tie.Need-returns
 unfolding codePanel
 returns c = c .before .before .before .before .before .before .before .before .before .before .before .before .before .before .before .before .before .before .before .before .before .before .before .before .before .before .put-place .ensures ⨾ c .before .before .before .before .before .before .before .before .before .before .before .before .before .before .before .before .before .before .before .before .before .before .put-older .ensures ⨾ c .before .before .before .before .before .before .before .before .before .before .before .before .before .before .before .before .before .before .put-drawn .ensures ⨾ c .before .before .before .before .before .before .before .before .before .before .before .before .before .before .put-title .ensures ⨾ c .before .before .before .before .before .before .before .before .before .before .put-frame .ensures ⨾ c .before .before .before .before .before .before .put-dials .ensures ⨾ c .before .before .put-end .ensures

@@ -5,7 +5,6 @@ use borrow.Author.Needs.{needs}
 use Rattle.panel.proofs.put_title.Statement.{statement}
 use Rattle.panel.proofs.put_title.Tie as tie
 
--- src/lib.rt:74:1
 returns : tie.Need-returns
 unfolding titleText
 returns c = c .before .before .before .before .before .before .before .before .before .before .before .put .ensures ⨾ c .before .before .before .before .before .before .before .put-title .ensures ⨾ c .before .before .put2 .ensures

@@ -3,10 +3,6 @@ use borrow.Author.Needs.{needs}
 use Rattle.panel_marks.proofs.put_kind.Statement.{statement}
 use Rattle.panel_marks.proofs.put_kind.Tie as tie
 
--- src/lib.rt:144:1
-returns : tie.Need-returns
-returns c = rw (c .before .before .before .before .before .kind-number .ensures) at (c .before .before .put-word .ensures)
-
 pub put-kind-spec : {M : Type 1} → statement M
 put-kind-spec =
     tie.close
@@ -16,4 +12,4 @@ put-kind-spec =
     (λ c. search needs)
     (λ c κs. search needs)
     (λ c. search needs)
-    returns)
+    (λ c. rw (c .before .before .before .before .before .kind-number .ensures) at (c .before .before .put-word .ensures)))
