@@ -1,9 +1,9 @@
-//! How every side is called: in the form of the library's C functions. The reference has the same form, so that one loop of the driver calls
-//! them all, and no side's caller is laid out better than another's.
+//! How every side is called: in the form of the library's C functions. The reference has the same form, so that the driver calls all sides
+//! from one loop.
 
 use std::mem::MaybeUninit;
 
-/// Refusal and steps, which the library answers. The reference has neither, and doesn't spend an instruction on them.
+/// Refusal and steps, which the library answers. The reference has neither, and spends no instruction on them.
 pub type Steps = MaybeUninit<[u32; 2]>;
 
 #[repr(C)]
@@ -17,7 +17,7 @@ pub struct StripAnswer {
     pub steps: Steps,
 }
 
-/// Block, its length, code, position. The library's code may be a u8: x86-64 passes either in the same register.
+/// Block, its length, code, position. The code of an older library is a u8; x86-64 passes both in the same register.
 pub type Height = unsafe extern "C" fn(*const u8, usize, u32, f32) -> Answer;
 
 /// Block, its length, code, the samples and how many.

@@ -120,6 +120,8 @@ fn sides() -> Vec<Side> {
     ]
 }
 
+const NOTHING: &str = "nothing";
+
 /// A side of one instruction, the return: its count is that of the driver's own loop.
 fn nothing() -> Side {
     extern "C" fn height(_: *const u8, _: usize, _: u32, height: f32) -> Answer {
@@ -135,7 +137,7 @@ fn nothing() -> Side {
         Answer { steps, height }
     }
     Side {
-        name: "nothing",
+        name: NOTHING,
         height: [height; 14],
         strip: [strip; 14],
         taps_height,
@@ -158,8 +160,8 @@ enum Work {
     Taps,
 }
 
-/// Fills the stack below the caller, where its callee will be, with 1.0. The inlined reference computes with what it finds there, before it knows
-/// whether it needs it, and a denormal number, as half a pointer is one, takes it ten times as long.
+/// Fills the stack below the caller, where its callee will be, with 1.0. The inlined reference computes with what it finds there before it
+/// knows whether it needs it; with a denormal number, as half a pointer is one, that takes many times as long.
 #[inline(never)]
 fn fill_stack() {
     black_box([1.0f32; 512]);
@@ -226,11 +228,14 @@ impl Work {
         }
     }
 
-    /// What the side computes.
-    fn answers(self, side: &Side, data: &mut Data) -> Vec<u32> {
-        data.out.fill(f32::NAN);
-        self.perform(side, data, 1);
-        data.out[..self.samples()].iter().map(|x| x.to_bits()).collect()
+    /// What the sides computed must agree, or the figures say nothing. `first` is what the first of them computed.
+    fn check(self, row: &str, side: &Side, data: &mut Data, first: &mut Option<Vec<u32>>) {
+        let out = &mut data.out[..self.samples()];
+        let bits: Vec<u32> = out.iter().map(|height| height.to_bits()).collect();
+        out.fill(f32::NAN);
+        let (side, n) = (side.name, self.length());
+        let agreed = *first.get_or_insert_with(|| bits.clone()) == bits;
+        assert!(agreed, "{row}, {n}: {side} differs: run reference/library/run");
     }
 }
 
@@ -288,28 +293,14 @@ fn figures(mut each: impl FnMut(&str, Work, &mut Data)) {
     }
 }
 
-/// What the sides computed must agree, or the figures say nothing.
-fn assert_agreed(row: &str, work: Work, sides: &[Side], data: &mut Data) {
-    let first = work.answers(&sides[0], data);
-    for side in &sides[1..] {
-        assert!(
-            work.answers(side, data) == first,
-            "{row}, {}: {} and {} differ: run reference/library/run",
-            work.length(),
-            sides[0].name,
-            side.name
-        );
-    }
-}
-
 fn seconds(work: Work, side: &Side, data: &mut Data, times: u32) -> f64 {
     let start = Instant::now();
     work.perform(side, data, times);
     start.elapsed().as_secs_f64() / f64::from(times)
 }
 
-/// How long a fixed work takes of which many repetitions can be under way at once, as many samples of a strip can. Two threads of a machine may
-/// share a core, and while the other one works each has half the room for that: the gauge then shows nearly twice as much.
+/// How long a fixed work takes of which many repetitions can be under way at once, as can the samples of a strip. Two threads of a machine
+/// may share a core, and while the other one works each has half the room for that: the gauge then shows nearly twice as much.
 fn gauge() -> f64 {
     let start = Instant::now();
     unsafe {
@@ -409,7 +400,11 @@ fn time() {
         let mut at = 0;
         figures(|row, work, data| {
             if pass == 0 {
-                assert_agreed(row, work, &sides, data);
+                let mut first = None;
+                for side in &sides {
+                    work.perform(side, data, 1);
+                    work.check(row, side, data, &mut first);
+                }
                 lines.push((format!("time\t{row}\t{}", work.length()), vec![Best::NONE; sides.len()]));
             }
             race(work, &sides, data, &mut lines[at].1, &mut least);
@@ -455,13 +450,16 @@ fn count() {
     let mut sides = sides();
     sides.push(nothing());
     figures(|row, work, data| {
-        assert_agreed(row, work, &sides[..sides.len() - 1], data);
+        let mut first = None;
         for side in &sides {
             let name = format!("{row}\t{}\t{}\t{}", work.length(), side.name, work.calls());
             let name = CString::new(name).expect("no NUL in a name");
             request(ZERO, None);
             work.perform(side, data, 1);
             request(DUMP_AT, Some(&name));
+            if side.name != NOTHING {
+                work.check(row, side, data, &mut first);
+            }
         }
     });
 }

@@ -37,7 +37,7 @@ impl Figure {
         self.sides[side].iter().zip(&self.sides[other]).map(|(a, b)| a / b).collect()
     }
 
-    /// The ratio of the mean times. The layouts fall into groups, by how the code lies in the lines of the cache, between which a median would jump.
+    /// The ratio of the mean times. The layouts fall into groups, and a median would jump between them.
     fn ratio(&self, side: &str, other: &str) -> f64 {
         mean(&self.sides[side]) / mean(&self.sides[other])
     }
@@ -69,7 +69,7 @@ impl Figure {
         if self.occupied { "*" } else { "" }
     }
 
-    /// Leaves out the layouts in which some side was not measured on a quiet core, unless there are hardly any others.
+    /// Leaves out the layouts in which some side was not measured on a quiet core, unless that is all of them.
     fn keep_quiet(&mut self, least: f64) {
         let layouts = self.sides.values().map(Vec::len).min().unwrap_or(0);
         let is_quiet = |layout: usize| self.gauges.values().all(|gauge| gauge[layout] < least * OCCUPIED);
@@ -151,7 +151,9 @@ fn print_rises(figures: &[Figure], what: &str) {
     print_table(figures, &format!("Ratio of {what} before and after, and how far it rose"), |figure| {
         let rust = figure.best(BY_CODE);
         let [before, after] = [BEFORE, OURS].map(|side| figure.ratio(side, rust));
-        format!("{before:.2} {after:.2} {:+.2}", after - before)
+        // Adding 0 makes -0 plain.
+        let rise = ((after - before) * 100.0).round() / 100.0 + 0.0;
+        format!("{before:.2} {after:.2} {rise:+.2}")
     });
 }
 
