@@ -135,7 +135,7 @@ pub fn shape_at(block: &[u8], code: Code) -> Shape
     }
 }
 
-// The height of a code's shape, which is never stored: a single height so takes as long as its curve.
+// The height of a code's shape, which is never stored: a single height so takes as long as its curve. The ids of cheap curves are matched here, so that their bytes are constants.
 fn height_at(block: &[u8], code: Code, t: f32) -> Height
     requires { ⌜ length (now block) ≡ blockLength ⌝ }
     ensures { λ r. ⌜ r ≡ heightOf (shapeOf code (byteAt (now (block .entry)))) t ⌝ }
@@ -144,10 +144,16 @@ fn height_at(block: &[u8], code: Code, t: f32) -> Height
         Code::Envelope(id) => envelope_height(envelope_at(block, id), t),
         Code::Lfo(id) => lfo_height(lfo_at(block, id, false), t),
         Code::LfoUnipolar(id) => lfo_height(lfo_at(block, id, true), t),
-        Code::Fade(id) => fade_height(fade_at(block, id), t),
+        Code::Fade(id) => match id {
+            LfoId::One => fade_height(fade_at(block, LfoId::One), t),
+            LfoId::Two => fade_height(fade_at(block, LfoId::Two), t),
+        },
         Code::LowPass => filter_height(low_pass_from(block[RESONANCE], block[POLE]), t),
         Code::HighPass => filter_height(high_pass(), t),
-        Code::Oscillator(id) => oscillator_height(oscillator_at(block, id), t),
+        Code::Oscillator(id) => match id {
+            OscillatorId::One => oscillator_height(oscillator_at(block, OscillatorId::One), t),
+            OscillatorId::Two => oscillator_height(oscillator_at(block, OscillatorId::Two), t),
+        },
         Code::Noise => noise_height(noise_from(block[NOISE_LEVEL]), t),
     }
 }

@@ -14,6 +14,7 @@ use block::lfo_at;
 use block::oscillator_at;
 use block::settle;
 use codes::Code;
+use codes::LfoId;
 use codes::NOISE_LEVEL;
 use codes::POLE;
 use codes::RESONANCE;
@@ -44,7 +45,10 @@ pub fn strip_at(block: &[u8], code: Code, out: &mut [f32]) -> u32
         Code::Envelope(id) => fill_envelope(envelope_at(block, id), out),
         Code::Lfo(id) => fill_lfo(lfo_at(block, id, false), out),
         Code::LfoUnipolar(id) => fill_lfo(lfo_at(block, id, true), out),
-        Code::Fade(id) => fill_fade(fade_at(block, id), out),
+        Code::Fade(id) => match id {
+            LfoId::One => fill_fade(fade_at(block, LfoId::One), out),
+            LfoId::Two => fill_fade(fade_at(block, LfoId::Two), out),
+        },
         Code::LowPass => fill_filter(low_pass_from(block[RESONANCE], block[POLE]), out),
         Code::HighPass => fill_filter(high_pass(), out),
         Code::Oscillator(id) => fill_oscillator(oscillator_at(block, id), out),

@@ -6,25 +6,15 @@ use borrow.Author.Needs.{needs}
 use Rattle.block.proofs.choose.Statement.{statement}
 use Rattle.block.proofs.choose.Tie as tie
 
-shape-at-requires : tie.Need-shape-at-requires
-shape-at-requires c κs = settled-length _ _ _ (sym (c .before .settled .given .1) ∙ c .before .before .before .settle .ensures)
-
-returns : tie.Need-returns
-unfolding chosenOf chosenBy
-returns c = simp (sym (c .before .before .before .before .before .settle .ensures), c .before .before .before .settled .given .1, c .of-shape .ensures, c .before .shape-at .ensures)
-
-returns-2 : tie.Need-returns-2
-unfolding chosenOf chosenBy
-returns-2 c = simp (sym (c .before .before .before .settle .ensures), c .before .settled2 .given .1)
-
 pub choose-spec : {M : Type 1} → statement M
+unfolding chosenOf chosenBy
 choose-spec =
     tie.close
     (tie.spec
     (λ c κs. search needs)
     (λ c. search needs)
-    shape-at-requires
+    (λ c κs. settled-length _ _ _ (sym (c .before .settled .given .1) ∙ c .before .before .before .settle .ensures))
     (λ c κs. search needs)
     (λ c. search needs)
-    returns
-    returns-2)
+    (λ c. simp (sym (c .before .before .before .before .before .settle .ensures), c .before .before .before .settled .given .1, c .of-shape .ensures, c .before .shape-at .ensures))
+    (λ c. simp (sym (c .before .before .before .settle .ensures), c .before .settled2 .given .1)))
