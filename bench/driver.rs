@@ -77,6 +77,7 @@ struct Side {
     taps_height: TapsHeight,
 }
 
+/// A function of a side, by its symbol.
 macro_rules! function {
     ($type:ty, $($symbol:expr),*) => {{
         unsafe extern "C" {
@@ -87,6 +88,7 @@ macro_rules! function {
     }};
 }
 
+/// A side whose functions are called by its name, and the code where the codes are listed.
 macro_rules! side {
     ($name:literal) => {
         Side {
@@ -310,13 +312,18 @@ fn gauge() -> f64 {
     start.elapsed().as_secs_f64()
 }
 
+/// Whether something else was running on the core, where the gauge has shown this, and never less than `least`.
+pub fn is_occupied(gauge: f64, least: f64) -> bool {
+    gauge > least * 1.3
+}
+
 /// Waits for a quiet core, but not for long; `least` is the least that the gauge has shown.
 fn wait(least: &mut f64) -> f64 {
     let start = Instant::now();
     loop {
         let gauge = gauge();
         *least = least.min(gauge);
-        if gauge <= *least * report::OCCUPIED || start.elapsed() > PATIENCE {
+        if !is_occupied(gauge, *least) || start.elapsed() > PATIENCE {
             return gauge;
         }
     }
@@ -338,12 +345,12 @@ impl Best {
     };
 
     fn add(&mut self, time: f64, gauge: f64, least: f64) {
-        let occupied = |gauge: f64| gauge > least * report::OCCUPIED;
-        if occupied(self.gauge) {
+        let [was_occupied, occupied] = [self.gauge, gauge].map(|gauge| is_occupied(gauge, least));
+        if was_occupied {
             self.quiet = 0;
         }
-        self.quiet += usize::from(!occupied(gauge));
-        if (occupied(gauge), time) < (occupied(self.gauge), self.time) {
+        self.quiet += usize::from(!occupied);
+        if (occupied, time) < (was_occupied, self.time) {
             (self.time, self.gauge) = (time, gauge);
         }
     }
@@ -355,14 +362,14 @@ impl Best {
     }
 }
 
-/// Whether every side has so many quiet measurements.
-fn quiet(best: &[Best], n: usize) -> bool {
-    best.iter().all(|best| best.quiet >= n)
+/// Whether every side has so many quiet measurements, by what the gauge has shown so far.
+fn quiet(best: &[Best], n: usize, least: f64) -> bool {
+    best.iter().all(|best| best.quiet >= n && !is_occupied(best.gauge, least))
 }
 
 /// Measures the sides in turn.
 fn race(work: Work, sides: &[Side], data: &mut Data, best: &mut [Best], least: &mut f64) {
-    if quiet(best, FEWEST) {
+    if quiet(best, FEWEST, *least) {
         return;
     }
     let mut times = |side| {
@@ -375,7 +382,7 @@ fn race(work: Work, sides: &[Side], data: &mut Data, best: &mut [Best], least: &
     let times: Vec<u32> = sides.iter().map(&mut times).collect();
     let start = Instant::now();
     for round in 0.. {
-        if round >= FEWEST && (start.elapsed() > ENOUGH || quiet(best, QUIET)) {
+        if round >= FEWEST && (start.elapsed() > ENOUGH || quiet(best, QUIET, *least)) {
             break;
         }
         for (i, side) in sides.iter().enumerate() {
@@ -393,9 +400,13 @@ fn race(work: Work, sides: &[Side], data: &mut Data, best: &mut [Best], least: &
 
 fn time() {
     let sides = sides();
-    let mut least = (0..1000).map(|_| gauge()).fold(f64::INFINITY, f64::min);
-    let mut lines = Vec::new();
+    // Within a second some moment is quiet.
+    let mut least = f64::INFINITY;
     let start = Instant::now();
+    while start.elapsed() < Duration::from_secs(1) {
+        least = least.min(gauge());
+    }
+    let mut lines = Vec::new();
     for pass in 0.. {
         let mut at = 0;
         figures(|row, work, data| {
@@ -410,7 +421,7 @@ fn time() {
             race(work, &sides, data, &mut lines[at].1, &mut least);
             at += 1;
         });
-        if lines.iter().all(|(_, best)| quiet(best, FEWEST)) || start.elapsed() > LONGEST {
+        if lines.iter().all(|(_, best)| quiet(best, FEWEST, least)) || start.elapsed() > LONGEST {
             break;
         }
     }
@@ -466,10 +477,11 @@ fn count() {
 
 pub fn run() {
     let words: Vec<String> = std::env::args().skip(1).collect();
-    match (words[0].as_str(), &words[1..]) {
-        ("time", []) => time(),
-        ("count", []) => count(),
-        ("report", files) => report::print(files),
+    let words: Vec<&str> = words.iter().map(String::as_str).collect();
+    match words[..] {
+        ["time"] => time(),
+        ["count"] => count(),
+        ["report", ref files @ ..] => report::print(files),
         _ => panic!("time, count, or report FILE .."),
     }
 }

@@ -1,5 +1,6 @@
 //! The tables of what `time` and `count` left.
 
+use super::is_occupied;
 use std::collections::HashMap;
 
 const OURS: &str = "juvrada";
@@ -10,9 +11,6 @@ const CALLED: &[&str] = &["called2", "called3"];
 const INLINED: &[&str] = &["inlined2", "inlined3"];
 const BY_CODE: &[&str] = &["called2", "called3", "inlined2", "inlined3"];
 const KNOWN: &[&str] = &["known2", "known3"];
-
-/// Where the gauge shows so many times the least that it has shown, something else was running on the core.
-pub const OCCUPIED: f64 = 1.3;
 
 /// A row's single height, of which the length is 1, or one of its strips: each side's numbers, one for each layout.
 #[derive(Default)]
@@ -72,9 +70,9 @@ impl Figure {
     /// Leaves out the layouts in which some side was not measured on a quiet core, unless that is all of them.
     fn keep_quiet(&mut self, least: f64) {
         let layouts = self.sides.values().map(Vec::len).min().unwrap_or(0);
-        let is_quiet = |layout: usize| self.gauges.values().all(|gauge| gauge[layout] < least * OCCUPIED);
+        let is_quiet = |layout: usize| self.gauges.values().all(|gauge| gauge[layout].is_finite() && !is_occupied(gauge[layout], least));
         let quiet: Vec<usize> = (0..layouts).filter(|&layout| is_quiet(layout)).collect();
-        self.occupied = quiet.len() * 2 < layouts;
+        self.occupied = quiet.len() * 4 < layouts * 3;
         if !quiet.is_empty() {
             self.sides.values_mut().for_each(|side| *side = quiet.iter().map(|&layout| side[layout]).collect());
         }
@@ -192,7 +190,7 @@ fn counts(text: &str) -> Vec<Figure> {
     figures
 }
 
-pub fn print(files: &[String]) {
+pub fn print(files: &[&str]) {
     let (mut times, mut growth, mut instructions) = (Vec::new(), Vec::new(), Vec::new());
     let mut least = f64::INFINITY;
     for file in files {
@@ -227,7 +225,7 @@ pub fn print(files: &[String]) {
     if !times.is_empty() {
         println!("The largest spread over the layouts: {}.", largest(&times, |figure| figure.spread().1 - figure.spread().0));
         let occupied = times.iter().filter(|figure| figure.occupied).count();
-        println!("Figures with a quiet core in less than half of the layouts, marked *: {occupied} of {}.", times.len());
+        println!("Figures with a quiet core in less than three quarters of the layouts, marked *: {occupied} of {}.", times.len());
     }
     for (figures, what) in &measured {
         for rust in BY_CODE.iter().chain(KNOWN) {

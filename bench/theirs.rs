@@ -1,6 +1,6 @@
-//! The reference as objects, so that the driver can look into it no more than into the library. For a single height it reads the block; for a
-//! strip it builds its generator once and samples it at the strip's positions. `run` compiles this file in three forms, since what else an
-//! object holds decides what the compiler makes of `Generator::at`:
+//! The reference as objects, so that the driver can look into it no more than into the library. For a single height it reads the block; for
+//! a strip it builds its generator once and samples it at the strip's positions. `run` compiles this file in three forms, since the rest of
+//! an object decides what the compiler makes of `Generator::at`:
 //!   called     one object for all functions: they share `at` and call it, as the users of another crate do
 //!   inlined    an object for each function: `at` has one caller and is inlined
 //!   known      an object for each function and code: the compiler knows the curve too, and can compute several samples at once
