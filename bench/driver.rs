@@ -224,7 +224,14 @@ impl Work {
     fn perform(self, side: &Side, data: &mut Data, times: u32) {
         let out = &mut data.out[..self.samples()];
         match self {
-            Work::Heights { code } => heights(side.height[code], &data.program, code as u32, &data.positions, out, times),
+            Work::Heights { code } => heights(
+                side.height[code],
+                &data.program,
+                code as u32,
+                &data.positions,
+                out,
+                times,
+            ),
             Work::Strip { code, .. } => drop(strips(side.strip[code], &data.program, code as u32, out, times)),
             Work::Taps => trains(side.taps_height, &data.taps, &data.positions, out, times),
         }
@@ -364,7 +371,8 @@ impl Best {
 
 /// Whether every side has so many quiet measurements, by what the gauge has shown so far.
 fn quiet(best: &[Best], n: usize, least: f64) -> bool {
-    best.iter().all(|best| best.quiet >= n && !is_occupied(best.gauge, least))
+    best.iter()
+        .all(|best| best.quiet >= n && !is_occupied(best.gauge, least))
 }
 
 /// Measures the sides in turn.
@@ -437,10 +445,20 @@ fn time() {
         data.program.0[6] = slew;
         for n in LENGTHS {
             let mut best = [Best::NONE];
-            race(Work::Strip { code: 3, n }, &sides[..1], &mut data, &mut best, &mut least);
+            race(
+                Work::Strip { code: 3, n },
+                &sides[..1],
+                &mut data,
+                &mut best,
+                &mut least,
+            );
             let answer = strips(sides[0].strip[3], &data.program, 3, &mut data.out[..n], 1);
             let [_, steps] = unsafe { answer.steps.assume_init() };
-            println!("growth\t{}, slew {slew}\t{n}\t{steps}\t{}", SHAPES[shape], best[0].text());
+            println!(
+                "growth\t{}, slew {slew}\t{n}\t{steps}\t{}",
+                SHAPES[shape],
+                best[0].text()
+            );
         }
     }
 }

@@ -32,7 +32,11 @@ impl Figure {
 
     /// One side as a part of another, in each layout.
     fn ratios(&self, side: &str, other: &str) -> Vec<f64> {
-        self.sides[side].iter().zip(&self.sides[other]).map(|(a, b)| a / b).collect()
+        self.sides[side]
+            .iter()
+            .zip(&self.sides[other])
+            .map(|(a, b)| a / b)
+            .collect()
     }
 
     /// The ratio of the mean times. The layouts fall into groups, and a median would jump between them.
@@ -70,11 +74,17 @@ impl Figure {
     /// Leaves out the layouts in which some side was not measured on a quiet core, unless that is all of them.
     fn keep_quiet(&mut self, least: f64) {
         let layouts = self.sides.values().map(Vec::len).min().unwrap_or(0);
-        let is_quiet = |layout: usize| self.gauges.values().all(|gauge| gauge[layout].is_finite() && !is_occupied(gauge[layout], least));
+        let is_quiet = |layout: usize| {
+            self.gauges
+                .values()
+                .all(|gauge| gauge[layout].is_finite() && !is_occupied(gauge[layout], least))
+        };
         let quiet: Vec<usize> = (0..layouts).filter(|&layout| is_quiet(layout)).collect();
         self.occupied = quiet.len() * 4 < layouts * 3;
         if !quiet.is_empty() {
-            self.sides.values_mut().for_each(|side| *side = quiet.iter().map(|&layout| side[layout]).collect());
+            self.sides
+                .values_mut()
+                .for_each(|side| *side = quiet.iter().map(|&layout| side[layout]).collect());
         }
     }
 }
@@ -90,7 +100,9 @@ fn number(text: &str) -> f64 {
 /// The figure of this row and length, which is made where there is none.
 fn figure<'a>(figures: &'a mut Vec<Figure>, row: &str, length: &str) -> &'a mut Figure {
     let length = length.parse().expect("a length");
-    let at = figures.iter().position(|figure| figure.row == row && figure.length == length);
+    let at = figures
+        .iter()
+        .position(|figure| figure.row == row && figure.length == length);
     let at = at.unwrap_or_else(|| {
         let row = row.to_string();
         figures.push(Figure {
@@ -107,7 +119,10 @@ fn figure<'a>(figures: &'a mut Vec<Figure>, row: &str, length: &str) -> &'a mut 
 fn print_table(figures: &[Figure], title: &str, cell: impl Fn(&Figure) -> String) {
     println!("{title}\n\n| Curve | One height | Strip of 2 | of 64 | of 512 | of 4,096 |\n|---|---|---|---|---|---|");
     for row in figures.chunk_by(|a, b| a.row == b.row) {
-        let cells: String = row.iter().map(|figure| format!(" {}{} |", cell(figure), figure.star())).collect();
+        let cells: String = row
+            .iter()
+            .map(|figure| format!(" {}{} |", cell(figure), figure.star()))
+            .collect();
         println!("| {} |{cells}{}", row[0].row, " |".repeat(5 - row.len()));
     }
     println!();
@@ -121,15 +136,23 @@ fn largest(figures: &[Figure], of: impl Fn(&Figure) -> f64) -> String {
 
 fn print_forms(figures: &[Figure], what: &str) {
     let title = format!("Ratio of {what} against the Rust in each form: called, inlined, compiled for one curve");
-    let cell = |figure: &Figure| [CALLED, INLINED, KNOWN].map(|form| format!("{:.2}", figure.ours(form))).join(" ");
+    let cell = |figure: &Figure| {
+        [CALLED, INLINED, KNOWN]
+            .map(|form| format!("{:.2}", figure.ours(form)))
+            .join(" ")
+    };
     print_table(figures, &title, cell);
 }
 
 fn print_times(figures: &[Figure]) {
-    print_table(figures, "Time of ours as a part of the Rust's, and the lowest and the highest of the layouts", |figure| {
-        let (lowest, highest) = figure.spread();
-        format!("{:.2} ({lowest:.2}..{highest:.2})", figure.ours(BY_CODE))
-    });
+    print_table(
+        figures,
+        "Time of ours as a part of the Rust's, and the lowest and the highest of the layouts",
+        |figure| {
+            let (lowest, highest) = figure.spread();
+            format!("{:.2} ({lowest:.2}..{highest:.2})", figure.ours(BY_CODE))
+        },
+    );
     print_table(figures, "Nanoseconds a sample, ours", |figure| {
         format!("{:.1}", mean(&figure.sides[OURS]) * 1e9 / figure.length as f64)
     });
@@ -137,22 +160,30 @@ fn print_times(figures: &[Figure]) {
 }
 
 fn print_counts(figures: &[Figure]) {
-    print_table(figures, "Instructions of a call: ours, the Rust's, and the ratio", |figure| {
-        let digits = if figure.length == 1 { 1 } else { 0 };
-        let [ours, theirs] = [OURS, figure.best(BY_CODE)].map(|side| figure.sides[side][0]);
-        format!("{ours:.digits$} {theirs:.digits$} {:.2}", ours / theirs)
-    });
+    print_table(
+        figures,
+        "Instructions of a call: ours, the Rust's, and the ratio",
+        |figure| {
+            let digits = if figure.length == 1 { 1 } else { 0 };
+            let [ours, theirs] = [OURS, figure.best(BY_CODE)].map(|side| figure.sides[side][0]);
+            format!("{ours:.digits$} {theirs:.digits$} {:.2}", ours / theirs)
+        },
+    );
     print_forms(figures, "instructions");
 }
 
 fn print_rises(figures: &[Figure], what: &str) {
-    print_table(figures, &format!("Ratio of {what} before and after, and how far it rose"), |figure| {
-        let rust = figure.best(BY_CODE);
-        let [before, after] = [BEFORE, OURS].map(|side| figure.ratio(side, rust));
-        // Adding 0 makes -0 plain.
-        let rise = ((after - before) * 100.0).round() / 100.0 + 0.0;
-        format!("{before:.2} {after:.2} {rise:+.2}")
-    });
+    print_table(
+        figures,
+        &format!("Ratio of {what} before and after, and how far it rose"),
+        |figure| {
+            let rust = figure.best(BY_CODE);
+            let [before, after] = [BEFORE, OURS].map(|side| figure.ratio(side, rust));
+            // Adding 0 makes -0 plain.
+            let rise = ((after - before) * 100.0).round() / 100.0 + 0.0;
+            format!("{before:.2} {after:.2} {rise:+.2}")
+        },
+    );
 }
 
 /// The time of our strips, and of a step, or of a sample where there are none. A figure's only side is named by its steps.
@@ -164,7 +195,11 @@ fn print_growth(growth: &[Figure]) {
         for (steps, times) in &figure.sides {
             let (row, n, star, time) = (&figure.row, figure.length, figure.star(), mean(times));
             let parts = if steps == "0" { n as f64 } else { number(steps) };
-            println!("| {row} | {n} | {steps} | {:.2}{star} | {:.2} |", time * 1e6, time * 1e9 / parts);
+            println!(
+                "| {row} | {n} | {steps} | {:.2}{star} | {:.2} |",
+                time * 1e6,
+                time * 1e9 / parts
+            );
         }
     }
     println!();
@@ -177,9 +212,12 @@ fn counts(text: &str) -> Vec<Figure> {
     for line in text.lines() {
         if let Some(text) = line.strip_prefix("desc: Trigger: Client Request: ") {
             name = Some(text.split('\t').collect::<Vec<_>>());
-        } else if let (Some(total), Some([row, length, side, calls])) = (line.strip_prefix("totals: "), name.as_deref()) {
+        } else if let (Some(total), Some([row, length, side, calls])) = (line.strip_prefix("totals: "), name.as_deref())
+        {
             let count = number(total) / number(calls);
-            figure(&mut figures, row, length).sides.insert(side.to_string(), vec![count]);
+            figure(&mut figures, row, length)
+                .sides
+                .insert(side.to_string(), vec![count]);
             name = None;
         }
     }
@@ -209,7 +247,10 @@ pub fn print(files: &[&str]) {
             least = least.min(number(gauge));
         }
     }
-    times.iter_mut().chain(&mut growth).for_each(|figure| figure.keep_quiet(least));
+    times
+        .iter_mut()
+        .chain(&mut growth)
+        .for_each(|figure| figure.keep_quiet(least));
     if !times.is_empty() {
         print_times(&times);
         print_growth(&growth);
@@ -223,21 +264,36 @@ pub fn print(files: &[&str]) {
         measured.iter().for_each(|(figures, what)| print_rises(figures, what));
     }
     if !times.is_empty() {
-        println!("The largest spread over the layouts: {}.", largest(&times, |figure| figure.spread().1 - figure.spread().0));
+        println!(
+            "The largest spread over the layouts: {}.",
+            largest(&times, |figure| figure.spread().1 - figure.spread().0)
+        );
         let occupied = times.iter().filter(|figure| figure.occupied).count();
-        println!("Figures with a quiet core in less than three quarters of the layouts, marked *: {occupied} of {}.", times.len());
+        println!(
+            "Figures with a quiet core in less than three quarters of the layouts, marked *: {occupied} of {}.",
+            times.len()
+        );
     }
     for (figures, what) in &measured {
         for rust in BY_CODE.iter().chain(KNOWN) {
-            println!("The largest ratio of {what} against {rust}: {}.", largest(figures, |figure| figure.ratio(OURS, rust)));
+            println!(
+                "The largest ratio of {what} against {rust}: {}.",
+                largest(figures, |figure| figure.ratio(OURS, rust))
+            );
         }
     }
     for (figures, what) in &measured {
-        println!("The largest ratio of {what}: {}.", largest(figures, |figure| figure.ours(BY_CODE)));
+        println!(
+            "The largest ratio of {what}: {}.",
+            largest(figures, |figure| figure.ours(BY_CODE))
+        );
     }
     if cfg!(before) {
         for (figures, what) in measured {
-            println!("The largest rise of a ratio of {what}: {}.", largest(figures, Figure::rise));
+            println!(
+                "The largest rise of a ratio of {what}: {}.",
+                largest(figures, Figure::rise)
+            );
         }
     }
 }

@@ -1,3 +1,2 @@
 -- Where the name ends.
-pub mod Blank
 pub mod NameEnd

@@ -1,3 +1,2 @@
--- The page: its panels, its head and its foot.
-pub mod Panels
+-- The page: its head, its panels and its foot.
 pub mod Page

@@ -7,7 +7,7 @@ use lib.ListN.{length, take, drop}
 use Rattle.codes.specs.Bytes.{byteAt, gatesByte, blockLength}
 use Rattle.text.specs.Text.{ascii}
 use Rattle.text.specs.Escaped.{escapedAll}
-use Rattle.page.specs.Panels.{panelsText, arpeggioText}
+use Rattle.page_panels.specs.Panels.{panelsText, arpeggioText}
 
 -- ---- the program's name
 -- The first of the n bytes from number i on that is 0, or the byte after them.

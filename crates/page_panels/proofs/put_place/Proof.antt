@@ -1,10 +1,10 @@
 -- `put_place` writes `placeText`. Assumes nothing.
 use mathlib.Core.Path.{refl}
 use Rattle.text.proofs.Writing.{_⨾_}
-use Rattle.page.specs.Panels.{placeText}
+use Rattle.page_panels.specs.Panels.{placeText}
 use borrow.Author.Needs.{needs}
-use Rattle.page.proofs.put_place.Statement.{statement}
-use Rattle.page.proofs.put_place.Tie as tie
+use Rattle.page_panels.proofs.put_place.Statement.{statement}
+use Rattle.page_panels.proofs.put_place.Tie as tie
 
 returns : tie.Need-returns
 unfolding placeText

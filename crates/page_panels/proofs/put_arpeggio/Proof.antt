@@ -1,10 +1,10 @@
 -- `put_arpeggio` writes `arpeggioText`. Assumes nothing.
 use mathlib.Core.Path.{refl}
 use Rattle.text.proofs.Writing.{_⨾_}
-use Rattle.page.specs.Panels.{arpeggioText}
+use Rattle.page_panels.specs.Panels.{arpeggioText}
 use borrow.Author.Needs.{needs}
-use Rattle.page.proofs.put_arpeggio.Statement.{statement}
-use Rattle.page.proofs.put_arpeggio.Tie as tie
+use Rattle.page_panels.proofs.put_arpeggio.Statement.{statement}
+use Rattle.page_panels.proofs.put_arpeggio.Tie as tie
 
 returns : tie.Need-returns
 unfolding arpeggioText

@@ -1,9 +1,9 @@
 -- `put_panel` writes `codePanel` of a known code. Assumes nothing.
-use Rattle.page.specs.Panels.{codePanel}
+use Rattle.page_panels.specs.Panels.{codePanel}
 use Rattle.text.proofs.Writing.{_⨾_}
 use borrow.Author.Needs.{needs}
-use Rattle.page.proofs.put_panel.Statement.{statement}
-use Rattle.page.proofs.put_panel.Tie as tie
+use Rattle.page_panels.proofs.put_panel.Statement.{statement}
+use Rattle.page_panels.proofs.put_panel.Tie as tie
 
 returns : tie.Need-returns
 unfolding codePanel

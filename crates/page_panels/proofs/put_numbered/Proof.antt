@@ -1,10 +1,10 @@
 -- `put_numbered` writes `panelText`. Assumes nothing.
-use Rattle.page.specs.Panels.{codePanel, panelText}
+use Rattle.page_panels.specs.Panels.{codePanel, panelText}
 use Rattle.text.proofs.Writing.{puts-none}
 use mathlib.Core.Path.{sym}
 use borrow.Author.Needs.{needs}
-use Rattle.page.proofs.put_numbered.Statement.{statement}
-use Rattle.page.proofs.put_numbered.Tie as tie
+use Rattle.page_panels.proofs.put_numbered.Statement.{statement}
+use Rattle.page_panels.proofs.put_numbered.Tie as tie
 
 returns : tie.Need-returns
 unfolding panelText

@@ -1,11 +1,11 @@
 -- `put_drawn` writes `drawnText`: what the generator says of itself, then the strip. Assumes nothing.
-use Rattle.page.proofs.Blank.{blank-filled}
-use Rattle.page.specs.Panels.{drawnText}
+use Rattle.page_panels.proofs.Blank.{blank-filled}
+use Rattle.page_panels.specs.Panels.{drawnText}
 use Rattle.generator.specs.Generator.{generatorOf}
 use Rattle.text.proofs.Writing.{_⨾_}
 use borrow.Author.Needs.{needs}
-use Rattle.page.proofs.put_drawn.Statement.{statement}
-use Rattle.page.proofs.put_drawn.Tie as tie
+use Rattle.page_panels.proofs.put_drawn.Statement.{statement}
+use Rattle.page_panels.proofs.put_drawn.Tie as tie
 
 returns : tie.Need-returns
 unfolding drawnText generatorOf

@@ -3,7 +3,7 @@ use mathlib.Core.Path.{_≡_, refl}
 use lib.ListN.{length}
 use Rattle.generator.specs.declared.Shape.{Shape}
 use Rattle.strip.specs.Strip.{filledOf, stripOf}
-use Rattle.page.specs.Panels.{blank}
+use Rattle.page_panels.specs.Panels.{blank}
 
 pub blank-filled : (s : Shape) → stripOf s blank ≡ filledOf s (length blank) (length blank) blank
 unfolding stripOf

@@ -9,9 +9,9 @@ use lib.ListN.{length}
 use Rattle.text.specs.Text.{Puts}
 use Rattle.text.proofs.Writing.{_⨾_, puts-none}
 use Rattle.codes.specs.Bytes.{blockLength}
-use Rattle.page.specs.Panels.{panelsText}
-use Rattle.page.proofs.put_panels.Statement.{statement}
-use Rattle.page.proofs.put_panels.Tie as tie
+use Rattle.page_panels.specs.Panels.{panelsText}
+use Rattle.page_panels.proofs.put_panels.Statement.{statement}
+use Rattle.page_panels.proofs.put_panels.Tie as tie
 
 abbrev Inv-loop : tie.InvT-loop
 Inv-loop out₀ at older block over next₀ k₀ out next k = (k ≤ 14) × (over ≡ eqb (length older) blockLength) × (length out ≡ length out₀) × Puts out₀ at (panelsText older block k) out next

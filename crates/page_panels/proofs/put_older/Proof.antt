@@ -1,13 +1,13 @@
 -- `put_older` writes `olderText`: the curve, where there is an older program. Assumes nothing.
-use Rattle.page.proofs.Blank.{blank-filled}
-use Rattle.page.specs.Panels.{olderText}
+use Rattle.page_panels.proofs.Blank.{blank-filled}
+use Rattle.page_panels.specs.Panels.{olderText}
 use Rattle.text.proofs.Writing.{puts-none}
 use lib.Dec.{T, eqb→eq}
 use borrow.Author.Tests.{not-true, not-false}
 use mathlib.Core.Path.{sym, subst, _∙_}
 use borrow.Author.Needs.{needs}
-use Rattle.page.proofs.put_older.Statement.{statement}
-use Rattle.page.proofs.put_older.Tie as tie
+use Rattle.page_panels.proofs.put_older.Statement.{statement}
+use Rattle.page_panels.proofs.put_older.Tie as tie
 
 returns : tie.Need-returns
 unfolding olderText

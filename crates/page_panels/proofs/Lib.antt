@@ -1,0 +1,2 @@
+-- A strip of 501 samples.
+pub mod Blank

@@ -1,0 +1,2 @@
+-- The panels of the page.
+pub mod Panels

@@ -1,0 +1,131 @@
+// The panels of a page: one for each code, in the order of their numbers, and the arpeggio's.
+ghost use mathlib.Core.Path.{_≡_};
+ghost use Prim.Native.Nat.{_<_};
+ghost use lib.Dec.{eqb};
+ghost use lib.ListN.{length};
+ghost use Rattle.text.specs.Text.{Puts};
+ghost use Rattle.codes.specs.Bytes.{blockLength, byteAt};
+ghost use Rattle.block.specs.Shapes.{shapeOf};
+ghost use Rattle.page_panels.specs.Panels.{placeText, panelEnd, drawnText, olderText, codePanel, panelText, panelsText, arpeggioText};
+use block::BLOCK;
+use block::shape_at;
+use block_strip::strip_at;
+use codes::CODES;
+use codes::Code;
+use codes::CodeRead;
+use codes::code_from;
+use generator::of_shape;
+use panel::SAMPLES;
+use panel::put_frame;
+use panel::put_title;
+use text::put;
+use text::put_decimal;
+
+fn put_place(out: &mut [u8], at: usize, k: u8) -> usize
+    requires { ⌜ k < 15 ⌝ }
+    ensures { λ r. ⌜ Puts (now (out .entry)) at (placeText k) (now (out .exit)) r ⌝ }
+{
+    let mut next = put(out, at, b"<g transform='translate(");
+    next = put_decimal(out, next, 1150 + 5600 * (k % 5) as u64);
+    next = put(out, next, b" ");
+    next = put_decimal(out, next, 5400 + 6050 * (k / 5) as u64);
+    put(out, next, b")'>")
+}
+
+fn put_end(out: &mut [u8], at: usize) -> usize
+    ensures { λ r. ⌜ Puts (now (out .entry)) at panelEnd (now (out .exit)) r ⌝ }
+{
+    put(out, at, b"</g>\n")
+}
+
+// What is drawn of a code's generator.
+fn put_drawn(out: &mut [u8], at: usize, block: &[u8], code: Code) -> usize
+    requires { ⌜ length (now block) ≡ blockLength ⌝ }
+    ensures { λ r. ⌜ Puts (now (out .entry)) at (drawnText (shapeOf code (byteAt (now (block .entry))))) (now (out .exit)) r ⌝ }
+{
+    let mut heights = [0.0f32; SAMPLES];
+    strip_at(block, code, &mut heights);
+    let g = of_shape(shape_at(block, code));
+    let mut next = panel::put_subtitle(out, at, g.scale(), g.anchored());
+    next = panel::put_rest(out, next, g.rest());
+    next = panel_marks::put_marks(out, next, g.marks());
+    panel::put_curve(out, next, &heights)
+}
+
+// The curve of an older program's generator, where there is such a program.
+fn put_older(out: &mut [u8], at: usize, older: &[u8], over: bool, code: Code) -> usize
+    requires { ⌜ over ≡ eqb (length (now older)) blockLength ⌝ }
+    ensures { λ r. ⌜ Puts (now (out .entry)) at (olderText (now (older .entry)) code) (now (out .exit)) r ⌝ }
+{
+    if !over {
+        return at;
+    }
+    let mut heights = [0.0f32; SAMPLES];
+    strip_at(older, code, &mut heights);
+    panel::put_older_curve(out, at, &heights)
+}
+
+fn put_panel(
+    out: &mut [u8],
+    at: usize,
+    older: &[u8],
+    over: bool,
+    block: &[u8],
+    k: u8,
+    code: Code,
+) -> usize
+    requires { ⌜ (k < 15) × (over ≡ eqb (length (now older)) blockLength) × (length (now block) ≡ blockLength) ⌝ }
+    ensures { λ r. ⌜ Puts (now (out .entry)) at (codePanel (now (older .entry)) (now (block .entry)) k (CodeRead.Known code)) (now (out .exit)) r ⌝ }
+{
+    let mut next = put_place(out, at, k);
+    next = put_older(out, next, older, over, code);
+    next = put_drawn(out, next, block, code);
+    next = put_title(out, next, k);
+    next = put_frame(out, next);
+    next = dials::put_dials(out, next, block, code);
+    put_end(out, next)
+}
+
+// The panel of a code's number.
+fn put_numbered(out: &mut [u8], at: usize, older: &[u8], over: bool, block: &[u8], k: u8) -> usize
+    requires { ⌜ (k < 15) × (over ≡ eqb (length (now older)) blockLength) × (length (now block) ≡ blockLength) ⌝ }
+    ensures { λ r. ⌜ Puts (now (out .entry)) at (panelText (now (older .entry)) (now (block .entry)) k) (now (out .exit)) r ⌝ }
+{
+    let read = code_from(k);
+    match read {
+        CodeRead::Known(code) => put_panel(out, at, older, over, block, k, code),
+        CodeRead::Above => at,
+    }
+}
+
+pub fn put_panels(out: &mut [u8], at: usize, older: &[u8], block: &[u8]) -> usize
+    requires { ⌜ length (now block) ≡ blockLength ⌝ }
+    ensures { λ r. ⌜ Puts (now (out .entry)) at (panelsText (now (older .entry)) (now (block .entry)) 14) (now (out .exit)) r ⌝ }
+{
+    let over = older.len() == BLOCK;
+    let mut next = at;
+    let mut k: u8 = 0;
+    while k < CODES {
+        next = put_numbered(out, next, older, over, block, k);
+        k += 1;
+    }
+    next
+}
+
+pub fn put_arpeggio(out: &mut [u8], at: usize, time: u8) -> usize
+    ensures { λ r. ⌜ Puts (now (out .entry)) at (arpeggioText time) (now (out .exit)) r ⌝ }
+{
+    let bars = bars::bars(generator::arpeggiator_gates(time));
+    let mut next = put_place(out, at, 14);
+    next = put_title(out, next, 14);
+    next = put(
+        out,
+        next,
+        b"<text y='-2600'>4 steps, left edge fixed</text>",
+    );
+    next = panel_marks::put_bars(out, next, bars);
+    next = panel_marks::put_steps(out, next);
+    next = put_frame(out, next);
+    next = dial_lines::put_dial(out, next, b"Gate time", time);
+    put_end(out, next)
+}
