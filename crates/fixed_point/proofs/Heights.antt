@@ -1,4 +1,4 @@
--- THE RULER'S TESTS OF A NUMBER FROM 0 TO 1: below 2 ^ -33, and from there on by its significand. Assumes nothing.
+-- THE COMPARISON OF A NUMBER FROM 0 TO 1: below 2 ^ -33, and from there on by its significand. Assumes nothing.
 use mathlib.Core.Path.{_≡_, refl, sym, ap, subst, _∙_}
 use mathlib.Core.Bool.{Bool, true, false, not, _&&_}
 use Prim.Native.Nat.{ℕ, _+_, _-_, _*_, _/_, _%_, _^_, _≤_, _<_}

@@ -1,4 +1,4 @@
--- THE RULER'S TESTS BY QUANTA: where x is G / U, x is below n / W where G W < n U, and above it where n U < G W. Assumes nothing.
+-- THE COMPARISON BY QUANTA: where x is G / U, x is below n / W where G W < n U, and above it where n U < G W. Assumes nothing.
 use mathlib.Core.Path.{_≡_, ap}
 use mathlib.Core.Bool.{Bool, true, false}
 use Prim.Native.Nat.{ℕ, _+_, _-_, _*_, _/_, _≤_, _<_}

@@ -1,4 +1,4 @@
--- A HEIGHT AGAINST THE RULER: docs/SPECIFICATION.md, "The checklist". The ruler's unit is 2^-32, and nothing is rounded. Definitions only.
+-- A HEIGHT BETWEEN TWO WHOLE NUMBERS OF 2^-32: docs/SPECIFICATION.md, "The checklist". The unit is 2^-32, and nothing is rounded. Definitions only.
 use mathlib.Core.Bool.{Bool, false, not, cond, _&&_}
 use Prim.Native.Nat.{ℕ, _^_}
 use lib.Ieee.{Float, le}
