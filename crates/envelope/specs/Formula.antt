@@ -35,9 +35,13 @@ sustainOf e t = e .sustain ⊕ (e .«sustain_end» ⊖ e .sustain) ⊗ divideOf 
 unfoldable pub releaseOf : Envelope → Float → Float
 releaseOf e t = e .«sustain_end» ⊗ (one₃₂ ⊖ bentOf (divideOf t (e .third) one₃₂) (e .«release_bend»))
 
--- The level at t: that of the first stretch whose end t is below, and past the third end the release.
+-- Of four numbers that of the stretch in which t lies: the first whose end t is below, and past the third end the release.
+abbrev pub ofStretch : Envelope → Float → Float → Float → Float → Float → Float
+ofStretch e t attack decay sustain release = cond (lt t (e .first)) attack (cond (lt t (e .second)) decay (cond (lt t (e .third)) sustain release))
+
+-- The level at t.
 unfoldable pub envelopeLevelOf : Envelope → Float → Float
-envelopeLevelOf e t = cond (lt t (e .first)) (attackOf e t) (cond (lt t (e .second)) (decayOf e t) (cond (lt t (e .third)) (sustainOf e t) (releaseOf e t)))
+envelopeLevelOf e t = ofStretch e t (attackOf e t) (decayOf e t) (sustainOf e t) (releaseOf e t)
 
 unfoldable pub envelopeHeightOf : Envelope → Float → Height
 envelopeHeightOf e t = drawnOf (envelopeLevelOf e (positionOf t))

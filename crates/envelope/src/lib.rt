@@ -1,6 +1,6 @@
 // An envelope's height: attack, decay, sustain and release, each a stretch between two ends.
 ghost use mathlib.Core.Path.{_≡_};
-ghost use Rattle.envelope.specs.Formula.{divideOf, bentOf, attackOf, decayOf, sustainOf, releaseOf, envelopeLevelOf, envelopeHeightOf};
+ghost use Rattle.envelope.specs.Formula.{divideOf, bentOf, attackOf, decayOf, sustainOf, releaseOf, ofStretch, envelopeLevelOf, envelopeHeightOf};
 use curve::Height;
 use curve::clamp_unit;
 use curve::drawn;
@@ -85,4 +85,47 @@ pub fn envelope_height(envelope: Envelope, t: f32) -> Height
     ensures { λ r. ⌜ r ≡ envelopeHeightOf envelope t ⌝ }
 {
     drawn(level(envelope, position(t)))
+}
+
+// ---- the same for the samples of a strip, with no branch: so a strip's loop computes several samples at once
+// Of four numbers that of the stretch in which t lies.
+fn of_stretch(e: Envelope, t: f32, attack: f32, decay: f32, sustain: f32, release: f32) -> f32
+    ensures { λ r. ⌜ r ≡ ofStretch e t attack decay sustain release ⌝ }
+{
+    if t < e.first {
+        return attack;
+    }
+    if t < e.second {
+        return decay;
+    }
+    if t < e.third {
+        return sustain;
+    }
+    release
+}
+
+// The level as one formula, over the ends and the bend of the stretch in which t lies.
+fn level_by_stretch(e: Envelope, t: f32) -> f32
+    ensures { λ r. ⌜ r ≡ envelopeLevelOf e t ⌝ }
+{
+    let from = of_stretch(e, t, 0.0, e.first, e.second, e.third);
+    let to = of_stretch(e, t, e.first, e.second, e.third, 1.0);
+    let bend = of_stretch(e, t, e.attack_bend, e.decay_bend, 1.0, e.release_bend);
+    let u = divide(t, from, to);
+    let y = bent(u, bend);
+    of_stretch(
+        e,
+        t,
+        y,
+        1.0 + (e.sustain - 1.0) * y,
+        e.sustain + (e.sustain_end - e.sustain) * u,
+        e.sustain_end * (1.0 - y),
+    )
+}
+
+// A sample's height. It has one caller, the loop of a strip, and so becomes a part of it.
+pub fn envelope_sample(envelope: Envelope, t: f32) -> f32
+    ensures { λ r. ⌜ r ≡ envelopeHeightOf envelope t .height ⌝ }
+{
+    clamp_unit(level_by_stretch(envelope, position(t)))
 }

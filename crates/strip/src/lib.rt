@@ -6,7 +6,7 @@ ghost use lib.ListN.{length};
 ghost use lib.Ieee.{le};
 ghost use Rattle.exact.specs.Binary32.{zero₃₂};
 ghost use Rattle.strip.specs.Strip.{partOf, lengthFits, filledOf, stepSum};
-use envelope::envelope_height;
+use envelope::envelope_sample;
 use fade::fade_height;
 use filter::filter_height;
 use generator::Shape;
@@ -59,7 +59,7 @@ pub fn fill_envelope(e: Envelope, out: &mut [f32]) -> u32
     let last = last_of(n);
     let mut i: usize = 0;
     while i < n {
-        out[i] = envelope_height(e, sample_position(i as u16, last)).height;
+        out[i] = envelope_sample(e, sample_position(i as u16, last));
         i += 1;
     }
     0

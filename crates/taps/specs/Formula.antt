@@ -9,7 +9,7 @@ use Rattle.curve.specs.declared.Height.{Height}
 use Rattle.curve.specs.Curve.{positionOf, drawnOf}
 use Rattle.taps.specs.declared.Taps.{Taps}
 
--- Half the tapWidth of a tap: 0.014
+-- Half the width of a tap: 0.014
 abbrev pub tapWidth : Float
 tapWidth = bits 0x3c65_6042
 
@@ -28,11 +28,11 @@ atOf taps i = getD (taps .at) i nan
 abbrev pub tallOf : Taps → ℕ → Float
 tallOf taps i = getD (taps .tall) i nan
 
--- A spike: as tall as the tap where it falls, and 0 from the tapWidth on.
+-- A spike: as tall as the tap where it falls, and 0 from `tapWidth` on.
 abbrev pub spikeOf : Float → Float → Float
 spikeOf tall distance = tall ⊗ (one₃₂ ⊖ distance ⊘ tapWidth)
 
--- The height so far with one tap more: the larger of it and the spike, where t is nearer to the tap than the tapWidth.
+-- The height so far with one tap more: the larger of it and the spike, where t is nearer to the tap than `tapWidth`.
 unfoldable pub tapHeightOf : Float → Float → Float → Float → Float
 tapHeightOf at tall t height = cond (lt (absOf (t ⊖ at)) tapWidth) (maxOf height (spikeOf tall (absOf (t ⊖ at)))) height
 

@@ -10,7 +10,7 @@ use Rattle.generator.specs.declared.Shape.the-variants.{Envelope as AnEnvelope}
 use Rattle.generator.specs.Heights.{heightOf}
 use Rattle.lists.specs.Written.{written}
 use Rattle.strip.specs.Strip.{filledOf}
-use Rattle.strip.proofs.Filling.{at-position, filled-next, stepless, filled-whole}
+use Rattle.strip.proofs.Filling.{level-next, stepless, filled-whole}
 use Rattle.strip.proofs.fill_envelope.Statement.{statement}
 use Rattle.strip.proofs.fill_envelope.Tie as tie
 
@@ -29,8 +29,8 @@ unfolding heightOf
 loop-again c =
     let l = c .before .before .before in
     let s = AnEnvelope (l .before .before .before .args .e) in
-    let w = at-position s _ _ _ (l .before .last-of .ensures) (c .before .sample-position .ensures) (c .envelope-height .ensures) in
-    (simp length-set (l .loop .inv .0), search needs, filled-next s _ _ w _ (l .loop .inv .2))
+    let next = level-next s _ _ _ (l .before .last-of .ensures) (c .before .sample-position .ensures) (c .envelope-sample .ensures) _ (l .loop .inv .2) in
+    (simp length-set (l .loop .inv .0), search needs, next)
 
 returns : tie.Need-returns Inv-loop μ-loop
 unfolding heightOf envelopeHeightOf drawnOf
