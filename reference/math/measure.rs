@@ -1,4 +1,4 @@
-//! Measures the reference's math.rs where a comment of it makes a claim: the figures of docs/findings-math.md.
+//! Measures the reference's math.rs where a comment of it makes a claim: the figures of docs/DIFFERENCES.md.
 //! "Every f32" is meant so. The true sine, power and logarithm are those of f64, which is good to about 1e-15.
 
 use crate::math;

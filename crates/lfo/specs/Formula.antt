@@ -1,4 +1,4 @@
--- THE SLEW WALK IN BINARY32: docs/SPECIFICATION.md, "The slew walk". Each operation is rounded once, in the order written. Definitions only.
+-- THE SLEW WALK IN BINARY32: docs/SPECIFICATION.md, "The curves". Each operation is rounded once, in the order written. Definitions only.
 use mathlib.Core.Bool.{cond}
 use Prim.Native.Nat.{ℕ, zero, suc}
 use lib.IntN.{pos}
@@ -15,7 +15,7 @@ use Rattle.lfo_shapes.specs.Formula.{shapeAtOf}
 unfoldable pub stepOf : Float
 stepOf = one₃₂ ⊘ bits 0x42c0_0000
 
--- Where count k is placed: -1 + k / 96. It is placed by its count, never added up.
+-- Where count k is placed: k steps from -1, by its count and never added up. The step is rounded, and so are the product and the sum: it is not -1 + k / 96 rounded once (first at k = 14).
 unfoldable pub placeOf : ℕ → Float
 placeOf k = neg one₃₂ ⊕ ofInt binary32 (pos k) ⊗ stepOf
 

@@ -1,4 +1,4 @@
--- THE STEPS OF A WALK: docs/SPECIFICATION.md, "The three demands" and "The slew walk". Definitions only.
+-- THE STEPS OF A WALK: docs/SPECIFICATION.md, "The three demands" and "The curves". Definitions only.
 use mathlib.Core.Bool.{not}
 use Prim.Native.Nat.{ℕ, _≤_, _<_}
 use lib.Dec.{T}

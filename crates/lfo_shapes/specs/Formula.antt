@@ -1,4 +1,4 @@
--- THE LFO'S SHAPES IN BINARY32: docs/SPECIFICATION.md, "LFO". Each is a function of the phase, a number of cycles; each operation is rounded once, in the
+-- THE LFO'S SHAPES IN BINARY32: docs/SPECIFICATION.md, "The curves". Each is a function of the phase, a number of cycles; each operation is rounded once, in the
 -- order written. Definitions only.
 use mathlib.Core.Bool.{cond, _&&_}
 use mathlib.Core.List.{List, [], _∷_}
