@@ -44,17 +44,14 @@ fn tap_height(at: f32, tall: f32, t: f32, height: f32) -> f32
     height
 }
 
-// The largest of the taps' heights, from 0 on. The loop ends by the most that there can be, so that the compiler unrolls it.
+// The largest of the taps' heights, from 0 on.
 fn taps_level(taps: Taps, t: f32) -> f32
     ensures { λ r. ⌜ r ≡ tapsLevelOf taps t (usedOf taps) ⌝ }
 {
-    let used = taps.used;
+    let count = at_most(taps.used, MAX_TAPS);
     let mut height: f32 = 0.0;
     let mut i: usize = 0;
-    while i < MAX_TAPS {
-        if used <= i {
-            return height;
-        }
+    while i < count {
         height = tap_height(taps.at[i], taps.tall[i], t, height);
         i += 1;
     }
