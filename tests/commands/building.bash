@@ -4,7 +4,7 @@
 checkout=$scratch/checkout
 stand=$scratch/stand
 mkdir -p "$checkout/crates" "$stand/bin" "$scratch/away"
-cp "$juvrada" "$checkout/juvrada"
+cp -R "$juvrada" "$root/commands" "$checkout"
 door=$checkout/juvrada
 cat >"$checkout/crates.txt" <<'END'
 # a comment
@@ -123,6 +123,8 @@ echo 'stand-in 2' >"$stand/version"
 builds 1 "the toolchain has changed" "$door" sheet example
 rm "$checkout/target/bin/sheet"
 builds 1 "the program has gone" "$door" sheet example
+echo >>"$checkout/target/bin/sheet"
+builds 1 "the program is another than the one that was built" "$door" sheet example
 touch "$stand/change"
 echo again >>"$checkout/crates/page/src/lib.rt"
 builds 1 "a source has changed" "$door" sheet example
@@ -193,10 +195,10 @@ together() {
   echo again >>"$checkout/crates/page/src/lib.rt"
   : >"$stand/log"
   touch "$stand/hold"
-  "$@" sheet example >first.out 2>first.err &
+  "$@" sheet example >first.out 2>first.err 3>&- &
   local first=$!
   until_so '[ -s "$stand/log" ]'
-  "$@" sheet example >second.out 2>second.err &
+  "$@" sheet example >second.out 2>second.err 3>&- &
   local second=$!
   until_so 'grep -q waiting second.err'
   rm "$stand/hold"
@@ -229,7 +231,7 @@ interrupted() {
   rm -f "$stand/prover"
   touch "$stand/hold"
   set -m
-  "$door" sheet -o interrupted.svg example >out 2>err &
+  "$door" sheet -o interrupted.svg example >out 2>err 3>&- &
   door_pid=$!
   set +m
   until_so '[ -s "$stand/prover" ] && [ -n "$(ls -A "$TMPDIR")" ]'

@@ -106,7 +106,7 @@ expect "a refused block left a file" [ ! -e refused.svg ]
 refused "folder: a folder; $file" "$juvrada" sheet -o folder example
 refused "new/: a folder; $file" "$juvrada" sheet -o new/ example
 mkfifo pipe
-refused "pipe: not a plain file; $file" "$juvrada" sheet -o pipe example
+refused "pipe: not a plain file; $file" timeout 20 "$juvrada" sheet -o pipe example
 expect "a pipe is replaced" [ -p pipe ]
 refused "nowhere/page.svg: nothing can be written beside it" "$juvrada" sheet -o nowhere/page.svg example
 cp example kept
