@@ -134,6 +134,28 @@ mkdir ./-tmp
 same sheet-example 0 env TMPDIR=-tmp "$juvrada" sheet example
 expect "a temporary folder whose name begins with a dash is not left empty" [ -z "$(ls -A ./-tmp)" ]
 
+# ---- files that a user may not read or write: root may, so that nobody runs these
+
+nobody=(setpriv --reuid=65534 --regid=65534 --clear-groups)
+chmod 711 "$scratch" && chmod 1777 "$TMPDIR"
+if [ "$(id -u)" -ne 0 ]; then
+  user=(env)
+elif "${nobody[@]}" cat "$root/target/bin/sheet.digest" example >/dev/null 2>&1; then
+  user=("${nobody[@]}")
+else
+  user=()
+  skip "files without permission" "root cannot run a command as nobody here"
+fi
+if [ ${#user[@]} -gt 0 ]; then
+  cp example locked && chmod 000 locked
+  mkdir open shut && cp page.svg open/kept.svg && chmod 777 open && chmod 444 open/kept.svg && chmod 555 shut
+  same sheet-example 0 "${user[@]}" "$juvrada" sheet example
+  refused "locked: cannot be copied: Permission denied; $block" "${user[@]}" "$juvrada" sheet locked
+  refused "open/kept.svg: cannot be written" "${user[@]}" "$juvrada" sheet -o open/kept.svg example
+  refused "shut/page.svg: nothing can be written beside it" "${user[@]}" "$juvrada" sheet -o shut/page.svg example
+  expect "a file without permission is written" eval 'cmp -s page.svg open/kept.svg && [ "$(ls -A open shut | tr "\n" " ")" = "open: kept.svg  shut: " ]'
+fi
+
 # ---- full and read-only disks, where folders can be mounted
 
 # The command that runs another where it can mount: as root, or in a user namespace.
