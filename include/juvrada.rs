@@ -9,6 +9,29 @@ pub const MAX_SETTINGS: usize = 8;
 pub const GATES: usize = 4;
 pub const TAPS: usize = 4;
 
+/// `refusal`
+pub const ACCEPTED: u32 = 0;
+pub const BAD_BLOCK: u32 = 1;
+pub const BAD_CODE: u32 = 2;
+pub const BAD_STRIP: u32 = 3;
+
+/// Kinds of marks. The first four are captions too.
+pub const MARK_ATTACK: u8 = 0;
+pub const MARK_DECAY: u8 = 1;
+pub const MARK_SUSTAIN: u8 = 2;
+pub const MARK_RELEASE: u8 = 3;
+pub const MARK_CORNER: u8 = 4;
+pub const MARK_CYCLE: u8 = 5;
+pub const MARK_TAP: u8 = 6;
+pub const MARK_WIDTH: u8 = 7;
+pub const MARK_SWEEP: u8 = 8;
+pub const NO_CAPTION: u8 = 255;
+
+/// Kinds of scales.
+pub const SCALE_NORMALISED: u32 = 0;
+pub const SCALE_TURNS: u32 = 1;
+pub const SCALE_OCTAVES: u32 = 2;
+
 #[repr(C)]
 #[derive(Clone, Copy, Debug)]
 pub struct HeightResult {

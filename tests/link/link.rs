@@ -2,7 +2,7 @@
 
 use juvrada::*;
 
-#[path = "../../include/juvrada.rs"]
+#[path = "vendor/juvrada.rs"]
 mod juvrada;
 
 fn main() {
@@ -11,68 +11,68 @@ fn main() {
     let code = |block: &[u8; BLOCK], code: u32, t: f32| unsafe { juvrada_height(block.as_ptr(), BLOCK, code, t) };
 
     let r = code(&block, 7, f32::NAN);
-    assert_eq!((r.refusal, r.steps, r.height), (0, 0, 1.0));
+    assert_eq!((r.refusal, r.steps, r.height), (ACCEPTED, 0, 1.0));
     block[2] = 5;
     block[6] = 1;
     let r = code(&block, 5, 1.0);
-    assert_eq!((r.refusal, r.steps), (0, 672));
+    assert_eq!((r.refusal, r.steps), (ACCEPTED, 672));
     block[2] = 0;
     block[6] = 0;
     for number in [14, 255, 256, 269, u32::MAX] {
         let r = code(&block, number, 1.0);
-        assert_eq!((r.refusal, r.steps, r.height), (2, 0, 0.0));
+        assert_eq!((r.refusal, r.steps, r.height), (BAD_CODE, 0, 0.0));
     }
 
     // A triangle.
     block[2] = 1;
     let mut strip = [9.0; 6];
     let r = unsafe { juvrada_strip(block.as_ptr(), BLOCK, 3, strip.as_mut_ptr(), 5) };
-    assert_eq!((r.refusal, r.steps, strip), (0, 0, [0.0, 0.5, 1.0, 0.5, 0.0, 9.0]));
+    assert_eq!((r.refusal, r.steps, strip), (ACCEPTED, 0, [0.0, 0.5, 1.0, 0.5, 0.0, 9.0]));
     block[2] = 0;
     let mut long = vec![9.0; MAX_STRIP + 1];
     let r = unsafe { juvrada_strip(block.as_ptr(), BLOCK, 3, long.as_mut_ptr(), MAX_STRIP + 1) };
-    assert_eq!((r.refusal, r.steps), (3, 0));
+    assert_eq!((r.refusal, r.steps), (BAD_STRIP, 0));
     assert!(long.iter().all(|&x| x == 9.0));
 
     let (mut at, mut kind) = ([9.0; MAX_MARKS], [9; MAX_MARKS]);
     let r = unsafe { juvrada_marks(block.as_ptr(), BLOCK, 9, at.as_mut_ptr(), kind.as_mut_ptr()) };
-    assert_eq!((r.refusal, r.count), (0, 1));
-    assert_eq!((at, kind), ([0.5, 9.0, 9.0, 9.0, 9.0, 9.0], [4, 9, 9, 9, 9, 9]));
+    assert_eq!((r.refusal, r.count), (ACCEPTED, 1));
+    assert_eq!((at, kind), ([0.5, 9.0, 9.0, 9.0, 9.0, 9.0], [MARK_CORNER, 9, 9, 9, 9, 9]));
 
     let r = unsafe { juvrada_rest(block.as_ptr(), BLOCK, 3) };
-    assert_eq!((r.refusal, r.level), (0, 0.5));
+    assert_eq!((r.refusal, r.level), (ACCEPTED, 0.5));
     let r = unsafe { juvrada_scale(block.as_ptr(), BLOCK, 12) };
-    assert_eq!((r.refusal, r.kind, r.number), (0, 1, 1.0));
+    assert_eq!((r.refusal, r.kind, r.number), (ACCEPTED, SCALE_TURNS, 1.0));
     let r = unsafe { juvrada_anchored(block.as_ptr(), BLOCK, 0) };
-    assert_eq!((r.refusal, r.anchored), (0, 1));
+    assert_eq!((r.refusal, r.anchored), (ACCEPTED, 1));
     let r = unsafe { juvrada_anchored(block.as_ptr(), BLOCK - 1, 0) };
-    assert_eq!((r.refusal, r.anchored), (1, 0));
+    assert_eq!((r.refusal, r.anchored), (BAD_BLOCK, 0));
 
     let mut settings = [9.0; MAX_SETTINGS];
     let r = unsafe { juvrada_settings(block.as_ptr(), BLOCK, 10, settings.as_mut_ptr()) };
-    assert_eq!((r.refusal, r.count), (0, 4));
+    assert_eq!((r.refusal, r.count), (ACCEPTED, 4));
     assert_eq!(settings, [6.0, 0.0, 3.0, 1.0, 9.0, 9.0, 9.0, 9.0]);
 
     let mut captions = [9; 4];
     let refusal = unsafe { juvrada_captions(block.as_ptr(), BLOCK, 0, captions.as_mut_ptr(), 3) };
-    assert_eq!((refusal, captions), (0, [0, 2, 3, 9]));
+    assert_eq!((refusal, captions), (ACCEPTED, [MARK_ATTACK, MARK_SUSTAIN, MARK_RELEASE, 9]));
 
     let (mut start, mut end) = ([9.0; GATES], [9.0; GATES]);
     let r = unsafe { juvrada_gates(block.as_ptr(), BLOCK, start.as_mut_ptr(), end.as_mut_ptr()) };
-    assert_eq!((r.refusal, r.count, start, end), (0, 0, [9.0; 4], [9.0; 4]));
+    assert_eq!((r.refusal, r.count, start, end), (ACCEPTED, 0, [9.0; 4], [9.0; 4]));
     block[160] = 255;
     let r = unsafe { juvrada_bars(block.as_ptr(), BLOCK, start.as_mut_ptr(), end.as_mut_ptr()) };
-    assert_eq!((r.refusal, r.count), (0, 1));
+    assert_eq!((r.refusal, r.count), (ACCEPTED, 1));
     assert_eq!((start, end), ([0.0, 9.0, 9.0, 9.0], [4.0, 9.0, 9.0, 9.0]));
 
     let (taps, tall) = ([0.5, f32::NAN, 0.0, 0.0], [0.75, 1.0, 1.0, 1.0]);
     let r = unsafe { juvrada_taps_height(taps.as_ptr(), tall.as_ptr(), 2, 0.5) };
-    assert_eq!((r.refusal, r.steps, r.height), (0, 0, 0.75));
+    assert_eq!((r.refusal, r.steps, r.height), (ACCEPTED, 0, 0.75));
     let (mut at, mut kind) = ([9.0; MAX_MARKS], [9; MAX_MARKS]);
     let r = unsafe { juvrada_taps_marks(taps.as_ptr(), tall.as_ptr(), 2, at.as_mut_ptr(), kind.as_mut_ptr()) };
     assert_eq!(
         (r.refusal, r.count, at[0], at[2], kind),
-        (0, 2, 0.5, 9.0, [6, 6, 9, 9, 9, 9])
+        (ACCEPTED, 2, 0.5, 9.0, [MARK_TAP, MARK_TAP, 9, 9, 9, 9])
     );
     assert!(at[1].is_nan());
 }
