@@ -9,11 +9,11 @@ use lib.IntN.{pos, negsuc}
 use lib.Signed.{leZ-yes}
 use lib.Dec.{T, lit<, lit≤}
 use lib.Pow.{pow-pos}
-use lib.Ieee.{Float, binary32, round, ofBits, fits, lt, le}
+use lib.Ieee.{Float, binary32, round, ofBits, toBits, ofInt, fits, lt, le, add, sub, mul, div}
 use lib.Ieee.Fits.{add-fits, mul-fits}
 use lib.Ieee.Order.{round-mono}
 use lib.Ieee.Scale.{finite}
-use Rattle.exact.specs.Fraction.{Fraction, ratio, whole, _+ℚ_, _-ℚ_, _≤ℚ_}
+use Rattle.exact.specs.Fraction.{Fraction, ratio, whole, ltℚ, absℚ, _+ℚ_, _-ℚ_, _≤ℚ_}
 use Rattle.exact.specs.Value.{value, Within, RelativelyWithin}
 use Rattle.exact.specs.Binary32.{_⊕_, bits, one₃₂}
 use Rattle.exact.proofs.Defined.{value-defined}
@@ -28,9 +28,10 @@ use Rattle.exact.proofs.UnitRoundoff.{add-relative}
 use Rattle.exact.proofs.Analyser.{Bound, Expr, var, constant, plus, Approximates, analyse, plain, evalFloat, evalExact}
 use Rattle.exact.proofs.Soundness.{plainly}
 use Rattle.exact.proofs.Inputs.{one, one-input, covers, concludes, concluded, result}
-use Rattle.math.specs.Horner.{horner}
-use Rattle.math.specs.Formulas.{clampOf, fractOf, exp2Scale, exp2Coefficients, exp2Within, exp2Of, log2Of}
-use Rattle.math.specs.Series.{exp2ℚ, log2ℚ}
+use Rattle.lists.proofs.Every.{every}
+use Rattle.math.specs.Horner.{horner, hornerℚ}
+use Rattle.math.specs.Formulas.{clampOf, floorOf, fractOf, exp2Scale, exp2Coefficients, exp2Within, exp2Of, log2Coefficients, log2Series, log2Mantissa, log2Bits, log2Of}
+use Rattle.math.specs.Series.{terms, exp2ℚ, log2ℚ, log2Over, log2At, log2Mantissaℚ, log2Seriesℚ, log2Terms, log2Term, exponentOf}
 use Rattle.math.proofs.Exp2Error.{powerBound, NearPower, exp2-approximates}
 use Rattle.math.proofs.ExactExp2.{exp2-near}
 use Rattle.math.proofs.ExactLog2.{log2-near}
@@ -92,6 +93,17 @@ exponent s S h =
           ≤ℚ-trans (value s) (hi +ℚ q) (whole (pos 25)) (mul-pos (pow-pos 149) (pow-pos 24))
           (sum-raise-left (value s) S hi q (w .right) (w .below) (upper-fraction (2 ^ 149) S (pos (24 * 2 ^ 149)) (h .upper))) (leZ-yes tt);
     }
+
+-- ---- AT WHOLE NUMBERS the distance is computed, whatever the branch: 1 + 2 ^ n is a number that can be written down
+within : Fraction → Fraction → Bool
+within a b = ltℚ (absℚ (a -ℚ b)) (ratio 669 (2 ^ 24))
+
+at-whole : ℕ → Bool
+at-whole n = within (value (logOf (ofInt binary32 (pos n)))) (log2ℚ (ratio (2 ^ n + 1) 1))
+
+log-at-wholes : T (every at-whole 25)
+unfolding every at-whole within logOf log2Of log2Bits log2Mantissa log2Series log2Coefficients exp2Of exp2Within exp2Coefficients exp2Scale clampOf fractOf floorOf horner hornerℚ log2Over log2At log2Mantissaℚ log2Seriesℚ log2Terms log2Term exponentOf terms value lt ofBits toBits ofInt add sub mul div
+log-at-wholes = tt
 
 log-is : (s : Float) → T (finite s) → value s ≤ℚ whole (pos 25) → logOf s ≡ log2Of (one₃₂ ⊕ exp2Of s)
 unfolding logOf value ofBits

@@ -140,7 +140,7 @@ most-finite x p q h s =
     value-defined (l ⊗ g) .0
     (bounded binary32 (two l g) (two (value l) (value g)) (two (widened limitBound) (widened goneBound))
     (two-inputs binary32 l g (value l) (value g) (widened limitBound) (widened goneBound)
-    (own-range binary32 l (limitℚ (value x)) limitBound (unfold limitOf in div-fits binary32 two₃₂ x) (limit-bounded x h))
+    (own-range binary32 l (limitℚ (value x)) limitBound (unfold limitOf in div-fits binary32 _ _) (limit-bounded x h))
     (own-range binary32 g (value q -ℚ value p) goneBound (sub-fits binary32 q p) (gone-bounded p q s)))
     product (plainly binary32 (two (value l) (value g)) product tt) 1 1 (lit< tt) product-ok .left)
 

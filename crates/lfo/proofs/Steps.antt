@@ -71,44 +71,61 @@ nle-lt x y X Y h = go (lt y x) (λ t. nlt-at-most y x Y X t .le)
     go false k = absurd (subst T h (le-value x y X Y .1 (k tt)))
 
 -- ---- a position that reaches a phase from 0 to 6 is not below 0, and the last one reaches it
-reach-least : (phase : Float) (k : ℕ) → Spanned phase → k ≤ 672 → T (le phase (placeOf k)) → 96 ≤ k
+unreached : (phase : Float) (k : ℕ) → Spanned phase → k < 96 → le phase (placeOf k) ≡ false
 unfolding value ofBits
-reach-least phase k p l h = go (leb 96 k) (leb→le 96 k) (nleb→lt 96 k)
+unreached phase k p l = go (le phase (placeOf k)) (le-value phase (placeOf k) (p .number) K .0)
   where
-    go : (b : Bool) → (T b → 96 ≤ k) → (T (not b) → k < 96) → 96 ≤ k
-    go true i n = i tt
-    go false i n =
-        let z = ≤ℚ-trans (ratio 0 1) (value phase) (value (placeOf k)) (value-defined phase .1 (p .number)) (p .from) (le-value phase (placeOf k) (p .number) (place-finite k l) .0 h) in
-        absurd (both (lt (placeOf k) zero₃₂) (place-below-zero k (n tt)) (le-nlt zero₃₂ (placeOf k) tt (place-finite k l) (le-value zero₃₂ (placeOf k) tt (place-finite k l) .1 z)))
-      where
-        both : (b : Bool) → T b → T (not b) → ⊥
-        both true t f = f
-        both false t f = t
+    K : T (finite (placeOf k))
+    K = place-finite k (omega arith)
+
+    both : (b : Bool) → T b → T (not b) → ⊥
+    both true t f = f
+    both false t f = t
+
+    go : (b : Bool) → (T b → value phase ≤ℚ value (placeOf k)) → b ≡ false
+    go false h = refl
+    go true h =
+        let z = ≤ℚ-trans (ratio 0 1) (value phase) (value (placeOf k)) (value-defined phase .1 (p .number)) (p .from) (h tt) in
+        absurd (both (lt (placeOf k) zero₃₂) (place-below-zero k l) (le-nlt zero₃₂ (placeOf k) tt K (le-value zero₃₂ (placeOf k) tt K .1 z)))
 
 end-reaches : (phase : Float) → Spanned phase → T (le phase (placeOf 672))
 unfolding value ofBits
 end-reaches phase p = subst (λ (x : Float). T (le phase x)) (sym place-end) (le-value phase (bits 0x40c0_0000) (p .number) tt .1 (p .to))
 
--- ---- THE STEPS at a phase from 0 to 6
-pub steps-at : (phase : Float) → Spanned phase → Steps phase (suc (fullSteps phase))
-unfolding fullSteps
-steps-at phase p =
-    let f = found phase 65534 0 672 (lit< tt) (lit≤ tt) (is-true (le phase (placeOf 672)) (end-reaches phase p)) in
-    let r = fullFrom phase 65534 0 in
-    let reach : T (le phase (placeOf (suc r))) = subst T (sym (f .reaches)) tt in
+-- ---- THE STEPS at a phase from 0 to 6. The search may begin at any count up to 96, and has to go as far as 672.
+search-steps : (phase : Float) (n k : ℕ) → k < 96 → 671 ≤ n + k → Spanned phase → Steps phase (suc (fullFrom phase n k))
+search-steps phase n k s e p =
     record {
       some = one r;
-      reached = le-nlt phase (placeOf (suc r)) (p .number) (place-finite (suc r) (f .before)) reach;
-      first = λ j a b. nle-lt phase (placeOf j) (p .number) (place-finite j (inside j r b (f .before))) (f .passed j a (le-of-suc-le-suc b));
-      least = reach-least phase (suc r) p (f .before) reach;
+      reached = le-nlt phase (placeOf (suc r)) (p .number) (place-finite (suc r) (f .before)) (subst T (sym (f .reaches)) tt);
+      first = λ j a b. nle-lt phase (placeOf j) (p .number) (place-finite j (inside j r b (f .before))) (go j b (leb (suc k) j) (leb→le (suc k) j) (nleb→lt (suc k) j));
+      least = least (leb 96 (suc r)) (leb→le 96 (suc r)) (nleb→lt 96 (suc r));
       most = f .before;
     }
   where
+    r : ℕ
+    r = fullFrom phase n k
+
+    f : Found phase k 672 r
+    f = found phase n k 672 (omega arith) (omega arith) (is-true (le phase (placeOf 672)) (end-reaches phase p))
+
     one : (r : ℕ) → 1 ≤ suc r
     one r = omega arith
 
     inside : (j r : ℕ) → j < suc r → r < 672 → j ≤ 672
     inside j r a b = omega arith
+
+    go : (j : ℕ) → j < suc r → (b : Bool) → (T b → k < j) → (T (not b) → j < suc k) → le phase (placeOf j) ≡ false
+    go j l true h i = f .passed j (h tt) (le-of-suc-le-suc l)
+    go j l false h i = let u : j < suc k = i tt in unreached phase j p (omega arith)
+
+    least : (b : Bool) → (T b → 96 ≤ suc r) → (T (not b) → suc r < 96) → 96 ≤ suc r
+    least true h i = h tt
+    least false h i = absurd (subst T (sym (f .reaches) ∙ unreached phase (suc r) p (i tt)) tt)
+
+pub steps-at : (phase : Float) → Spanned phase → Steps phase (suc (fullSteps phase))
+unfolding fullSteps
+steps-at phase p = search-steps phase _ _ (lit< tt) (lit≤ tt) p
 
 -- ---- THE STEPS OF AN LFO: a slewed one's are those of its phase, and one that is not slewed has none
 pub lfo-steps : (l : Lfo) (t : Float) → LfoRange l → T (not (le (l .slew) zero₃₂)) → T (fits binary32 t) → Steps (positionOf t ⊗ l .turns) (lfoHeightOf l t .steps)
