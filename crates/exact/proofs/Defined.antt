@@ -77,21 +77,20 @@ given-is (suc d) h x = refl
 pub choice-defined : (a b x y : Fraction) → Defined (ifBelow a b x y) ↔ (Defined a × Defined b × Defined (cond (ltℚ a b) x y))
 unfolding ifBelow
 choice-defined a b x y =
-    let e = given-defined (a .den * b .den) (cond (ltℚ a b) x y) in
     let f = factors-pos (a .den) (b .den) in
-    (λ h. (f .0 (e .0 h .0) .0, f .0 (e .0 h .0) .1, e .0 h .1), λ h. e .1 (f .1 (h .0, h .1), h .2))
+    (λ h. let g = given-defined _ _ .0 h in (f .0 (g .0) .0, f .0 (g .0) .1, g .1), λ h. given-defined _ _ .1 (f .1 (h .0, h .1), h .2))
 
 pub choice-is : (a b : Fraction) → Defined a → Defined b → (x y : Fraction) → ifBelow a b x y ≡ cond (ltℚ a b) x y
 unfolding ifBelow
-choice-is a b h k x y = given-is (a .den * b .den) (mul-pos h k) (cond (ltℚ a b) x y)
+choice-is a b h k x y = given-is _ (mul-pos h k) _
 
 pub at-floor-defined : (f : ℤ → Fraction) (a : Fraction) → Defined (atFloor f a) ↔ (Defined a × Defined (f (floorℚ a)))
 unfolding atFloor
-at-floor-defined f a = given-defined (a .den) (f (floorℚ a))
+at-floor-defined f a = (λ h. given-defined _ _ .0 h, λ h. given-defined _ _ .1 h)
 
 pub at-floor-is : (f : ℤ → Fraction) (a : Fraction) → Defined a → atFloor f a ≡ f (floorℚ a)
 unfolding atFloor
-at-floor-is f a h = given-is (a .den) h (f (floorℚ a))
+at-floor-is f a h = given-is _ h _
 
 -- ---- floats
 pub value-defined : (x : Float) → Defined (value x) ↔ T (finite x)
