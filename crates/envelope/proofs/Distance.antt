@@ -1,15 +1,17 @@
 -- THE ENVELOPE'S HEIGHT IS A NUMBER FROM 0 TO 1, WITHIN 1 / 131,072 OF THE EXACT HEIGHT, at every f32, for all settings in their ranges. Both sides choose the same stretch, since
 -- they compare the same numbers; where t lies in it is within 4 * 2 ^ -24 (DivideError), the bend is within 66 * 2 ^ -24 (BendError), and the blend of two levels adds less than
 -- four more. So each stretch is one computed test of the analyser, against 128 * 2 ^ -24. Assumes nothing.
+use mathlib.Core.Path.{_≡_}
 use mathlib.Core.Bool.{Bool, true, false, not, cond}
 use lib.IntN.{pos}
 use lib.Dec.{T, lit<, lit≤}
 use lib.Ieee.{Float, binary32, ofBits, fits, le, lt}
 use lib.Ieee.Fits.{add-fits, mul-fits}
 use lib.Ieee.Scale.{finite}
-use Rattle.exact.specs.Fraction.{Fraction, Defined, ratio, whole}
+use Rattle.exact.specs.Fraction.{Fraction, Defined, ratio, whole, ltℚ, ifBelow}
 use Rattle.exact.specs.Value.{value, Within}
 use Rattle.exact.specs.Binary32.{zero₃₂, one₃₂}
+use Rattle.exact.proofs.Defined.{value-defined, choice-is}
 use Rattle.exact.proofs.Order.{le-value, lt-value, lt-at-most, nlt-at-most}
 use Rattle.exact.proofs.Analyser.{Expr, var, constant, plus, minus, times, analyse, certified, plain, evalFloat, evalExact}
 use Rattle.exact.proofs.Soundness.{plainly}
@@ -106,7 +108,7 @@ release-near e t r s =
 level-near : (e : Envelope) (t : Float) → EnvelopeRange e → Level t → LevelNear (envelopeLevelOf e t) (envelopeLevelℚ e (value t))
 unfolding envelopeLevelOf envelopeLevelℚ
 level-near e t r h =
-    rw (← lt-value t (e .first) ft f₁, ← lt-value t (e .second) ft f₂, ← lt-value t (e .third) ft f₃)
+    rw (chosen (e .first) f₁, chosen (e .second) f₂, chosen (e .third) f₃, ← lt-value t (e .first) ft f₁, ← lt-value t (e .second) ft f₂, ← lt-value t (e .third) ft f₃)
     (go (lt t (e .first)) (lt t (e .second)) (lt t (e .third))
     (λ a. attack-near e t r (record { at = at; start = zero-end; stop = first-end e r; after = le-value zero₃₂ t (end-finite zero₃₂ zero-end) ft .0 (h .from); before = lt-at-most t (e .first) ft f₁ a .le }))
     (λ a b. decay-near e t r (record { at = at; start = first-end e r; stop = second-end e r; after = nlt-at-most t (e .first) ft f₁ a .le; before = lt-at-most t (e .second) ft f₂ b .le }))
@@ -127,6 +129,9 @@ level-near e t r h =
 
     f₃ : T (finite (e .third))
     f₃ = end-finite (e .third) (third-end e r)
+
+    chosen : (x : Float) → T (finite x) → (X Y : Fraction) → ifBelow (value t) (value x) X Y ≡ cond (ltℚ (value t) (value x)) X Y
+    chosen x f = choice-is (value t) (value x) (value-defined t .1 ft) (value-defined x .1 f)
 
     go : (a b c : Bool) → (T a → LevelNear (attackOf e t) (attackℚ e (value t))) → (T (not a) → T b → LevelNear (decayOf e t) (decayℚ e (value t)))
         → (T (not b) → T c → LevelNear (sustainOf e t) (sustainℚ e (value t))) → (T (not c) → LevelNear (releaseOf e t) (releaseℚ e (value t)))

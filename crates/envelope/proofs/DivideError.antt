@@ -12,7 +12,7 @@ use lib.Ieee.Scale.{finite, overflow}
 use Rattle.exact.specs.Fraction.{Fraction, Defined, ratio, whole, clampUnitℚ, ltℚ, _+ℚ_, _-ℚ_, _*ℚ_, _/ℚ_, _≤ℚ_}
 use Rattle.exact.specs.Value.{value, Within, RelativelyWithin}
 use Rattle.exact.specs.Binary32.{_⊖_, _⊘_, bits, zero₃₂, one₃₂}
-use Rattle.exact.proofs.Defined.{value-defined}
+use Rattle.exact.proofs.Defined.{value-defined, given-is, choice-is}
 use Rattle.exact.proofs.Order.{parts-≤ℚ, ≤ℚ-trans, sum-raise-left, equal-refl, equal-sym, equal-within, within-triangle, within-loosen, within-equal-left, le-value, between-finite}
 use Rattle.exact.proofs.Inequality.{nlt-le}
 use Rattle.exact.proofs.Lipschitz.{unit-within, unit-value, unit-at-most-one, zero-at-most-unit}
@@ -177,8 +177,12 @@ some-width t from to s l =
 -- ---- EVERY STRETCH
 pub divide-near : (t from to : Float) → Stretch t from to → Approximates binary32 (divideOf t from to) (divideℚ (value t) (value from) (value to)) divideBound
 unfolding divideOf divideℚ
-divide-near t from to s = rw (sign-agrees to from (s .stop) (s .start)) (go (ltℚ (value from) (value to)) (some-width t from to s))
+divide-near t from to s =
+    rw (choice-is (value from) (value to) (has-value from (s .start)) (has-value to (s .stop)), given-is (value t .den) (has-value t (s .at)), sign-agrees to from (s .stop) (s .start)) (go (ltℚ (value from) (value to)) (some-width t from to s))
   where
+    has-value : (x : Float) → End x → Defined (value x)
+    has-value x h = value-defined x .1 (end-finite x h)
+
     x : Float
     x = (t ⊖ from) ⊘ (to ⊖ from)
 

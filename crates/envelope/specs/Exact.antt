@@ -1,16 +1,15 @@
 -- THE ENVELOPE'S EXACT HEIGHT: docs/SPECIFICATION.md, "Exact heights". The ends, levels and bends are the numbers that the settings hold, and the position is the number that
 -- `positionOf` gives; all else is a fraction, and nothing is rounded. Definitions only.
-use mathlib.Core.Bool.{cond}
 use lib.IntN.{pos}
 use lib.Ieee.{Float}
-use Rattle.exact.specs.Fraction.{Fraction, whole, clampUnitℚ, ltℚ, _+ℚ_, _-ℚ_, _*ℚ_, _/ℚ_}
+use Rattle.exact.specs.Fraction.{Fraction, whole, clampUnitℚ, given, ifBelow, _+ℚ_, _-ℚ_, _*ℚ_, _/ℚ_}
 use Rattle.exact.specs.Value.{value}
 use Rattle.curve.specs.Curve.{positionOf}
 use Rattle.settings.specs.declared.Envelope.{Envelope}
 
--- Where t lies between two ends, clamped to 0..1: 0 in a stretch of no width.
+-- Where t lies between two ends, clamped to 0..1: in a stretch of no width 0, if t has a value at all.
 unfoldable pub divideℚ : Fraction → Fraction → Fraction → Fraction
-divideℚ t from to = cond (ltℚ from to) (clampUnitℚ ((t -ℚ from) /ℚ (to -ℚ from))) (whole (pos 0))
+divideℚ t from to = ifBelow from to (clampUnitℚ ((t -ℚ from) /ℚ (to -ℚ from))) (given (t .den) (whole (pos 0)))
 
 -- The denominator of a bend: above 0 for a u from 0 to 1 and a k above 0.
 unfoldable pub denominatorℚ : Fraction → Fraction → Fraction
@@ -36,9 +35,9 @@ releaseℚ e t = value (e .«sustain_end») *ℚ (whole (pos 1) -ℚ bentℚ (di
 -- The level at t: that of the first stretch whose end t is below, and past the third end the release.
 unfoldable pub envelopeLevelℚ : Envelope → Fraction → Fraction
 envelopeLevelℚ e t =
-    cond (ltℚ t (value (e .first))) (attackℚ e t)
-    (cond (ltℚ t (value (e .second))) (decayℚ e t)
-    (cond (ltℚ t (value (e .third))) (sustainℚ e t) (releaseℚ e t)))
+    ifBelow t (value (e .first)) (attackℚ e t)
+    (ifBelow t (value (e .second)) (decayℚ e t)
+    (ifBelow t (value (e .third)) (sustainℚ e t) (releaseℚ e t)))
 
 -- The height at any f32, clamped to 0..1.
 unfoldable pub envelopeHeightℚ : Envelope → Float → Fraction

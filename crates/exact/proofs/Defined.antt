@@ -1,7 +1,10 @@
 -- WHAT HAS NO VALUE STAYS WITHOUT ONE: the result of an operation is defined exactly where its operands are, and a quotient where besides
 -- its divisor is not 0. A float's value is defined exactly where the float is finite. By the denominators: a sum's, a product's, a minimum's
--- and a maximum's is the product of the operands', which is above 0 just where both are. Each lemma is an equivalence: `.0` leads from the
--- result to the operands and `.1` back. Assumes nothing.
+-- and a maximum's is the product of the operands', which is above 0 just where both are. A choice is defined exactly where both numbers that are
+-- compared are, and the one that is chosen; what is made of a floor, where the number is that has the floor. Each lemma is an equivalence: `.0` leads
+-- from the result to the operands and `.1` back. Assumes nothing.
+use mathlib.Core.Path.{_≡_, refl}
+use mathlib.Core.Bool.{cond}
 use mathlib.Core.Logic.{_↔_}
 use Prim.Native.Nat.{ℕ, zero, suc, _*_, _<_}
 use native.Mathlib.Nat.{mul-pos, lt-irrefl, zero-lt-suc}
@@ -11,7 +14,7 @@ use lib.Dec.{T}
 use lib.Ieee.{Float, nan, inf, fin}
 use lib.Ieee.Fits.{down-pos}
 use lib.Ieee.Scale.{finite}
-use Rattle.exact.specs.Fraction.{Fraction, Defined, powerOfTwo, over, _+ℚ_, negℚ, _-ℚ_, _*ℚ_, _/ℚ_, minℚ, maxℚ, absℚ, clampUnitℚ}
+use Rattle.exact.specs.Fraction.{Fraction, Defined, powerOfTwo, over, _+ℚ_, negℚ, _-ℚ_, _*ℚ_, _/ℚ_, ltℚ, minℚ, maxℚ, absℚ, clampUnitℚ, floorℚ, given, ifBelow, atFloor}
 use Rattle.exact.specs.Value.{value}
 use Rattle.exact.proofs.Operations.{first-pos}
 
@@ -59,6 +62,35 @@ unit-defined a = (λ h. h, λ h. h)
 
 pub power-defined : (z : ℤ) → Defined (powerOfTwo z)
 power-defined z = down-pos z
+
+-- ---- choices, and with operands that are defined what they choose
+pub given-defined : (d : ℕ) (x : Fraction) → Defined (given d x) ↔ ((0 < d) × Defined x)
+unfolding given
+given-defined zero x = (λ h. absurd (lt-irrefl 0 h), λ h. h .0)
+given-defined (suc d) x = (λ h. (zero-lt-suc d, h), λ h. h .1)
+
+pub given-is : (d : ℕ) → 0 < d → (x : Fraction) → given d x ≡ x
+unfolding given
+given-is zero h x = absurd (lt-irrefl 0 h)
+given-is (suc d) h x = refl
+
+pub choice-defined : (a b x y : Fraction) → Defined (ifBelow a b x y) ↔ (Defined a × Defined b × Defined (cond (ltℚ a b) x y))
+unfolding ifBelow
+choice-defined a b x y =
+    let f = factors-pos (a .den) (b .den) in
+    (λ h. let g = given-defined _ _ .0 h in (f .0 (g .0) .0, f .0 (g .0) .1, g .1), λ h. given-defined _ _ .1 (f .1 (h .0, h .1), h .2))
+
+pub choice-is : (a b : Fraction) → Defined a → Defined b → (x y : Fraction) → ifBelow a b x y ≡ cond (ltℚ a b) x y
+unfolding ifBelow
+choice-is a b h k x y = given-is _ (mul-pos h k) _
+
+pub at-floor-defined : (f : ℤ → Fraction) (a : Fraction) → Defined (atFloor f a) ↔ (Defined a × Defined (f (floorℚ a)))
+unfolding atFloor
+at-floor-defined f a = (λ h. given-defined _ _ .0 h, λ h. given-defined _ _ .1 h)
+
+pub at-floor-is : (f : ℤ → Fraction) (a : Fraction) → Defined a → atFloor f a ≡ f (floorℚ a)
+unfolding atFloor
+at-floor-is f a h = given-is _ h _
 
 -- ---- floats
 pub value-defined : (x : Float) → Defined (value x) ↔ T (finite x)

@@ -1,6 +1,7 @@
 -- EXACT FRACTIONS. A fraction is a whole number over a natural number, and is defined where the natural number is above 0.
 -- What has no value is a fraction over 0: a quotient by zero, and the value of a NaN or of an infinity (Value.antt).
--- Every operation keeps that: its result is defined only where its operands are (proofs/Defined.antt). Definitions only.
+-- Every operation that gives a fraction keeps that: its result is defined only where its operands are (proofs/Defined.antt). `ltℚ` and `floorℚ` give no
+-- fraction, and say nothing of what has no value: a fraction that is chosen by them is chosen by `ifBelow` and `atFloor`. Definitions only.
 use mathlib.Core.Bool.{Bool, cond}
 use Prim.Native.Nat.{ℕ, zero, suc, _*_, _/_, _<_}
 use lib.IntN.{ℤ, pos, negsuc, negℤ, natAbs, _+ℤ_, _*ℤ_}
@@ -89,3 +90,17 @@ floorOver (negsuc n) d = negsuc (n / d)
 
 abbrev pub floorℚ : Fraction → ℤ
 floorℚ a = floorOver (a .num) (a .den)
+
+-- ---- what is chosen by a comparison or a floor: no value where one of the numbers that are compared, or the floor's, has none
+-- x, and no value where d is 0
+unfoldable pub given : ℕ → Fraction → Fraction
+given zero x = ratio 0 0
+given (suc d) x = x
+
+-- x where a is below b, and y where it is not
+unfoldable pub ifBelow : Fraction → Fraction → Fraction → Fraction → Fraction
+ifBelow a b x y = given (a .den * b .den) (cond (ltℚ a b) x y)
+
+-- what f is at the floor of a
+unfoldable pub atFloor : (ℤ → Fraction) → Fraction → Fraction
+atFloor f a = given (a .den) (f (floorℚ a))

@@ -14,7 +14,7 @@ use Rattle.exact.specs.Fraction.{Fraction, ratio, over, ltℚ, _/ℚ_, _≤ℚ_
 use Rattle.exact.specs.Value.{value, Within}
 use Rattle.exact.specs.Binary32.{_⊘_, zero₃₂, one₃₂}
 use Rattle.exact.proofs.Parts.{num⁺, num⁻, part⁺, part⁻, scale⁺, scale⁻}
-use Rattle.exact.proofs.Defined.{value-defined}
+use Rattle.exact.proofs.Defined.{value-defined, choice-is}
 use Rattle.exact.proofs.Order.{≤ℚ-parts, ltℚ-parts, equal-within, equal-refl, lt-value, le-value}
 use Rattle.exact.proofs.Quanta.{quanta-value}
 use Rattle.exact.proofs.Analyser.{Bound, Expr, var, quotient, Approximates, Lower, Upper, Facts, evalFloat, evalExact, analyse, certified}
@@ -102,7 +102,8 @@ pub fade-level-near : (f : Fade) → FadeRange f → (x : Float) → Level x →
 unfolding fadeLevelOf fadeℚ
 fade-level-near f r x h =
     let e = f .end in
-    rw (lt-value x e (level-finite x h) (level-finite e (r .end))) (go (ltℚ (value x) (value e)) (rising x e h (r .end)))
+    let d = value-defined x .1 (level-finite x h) in
+    rw (choice-is (value x) (value e) d (value-defined e .1 (level-finite e (r .end))), lt-value x e (level-finite x h) (level-finite e (r .end))) (go (ltℚ (value x) (value e)) (rising x e h (r .end)))
   where
     go : (b : Bool) → (T b → Within (value (x ⊘ f .end)) (value x /ℚ value (f .end)) (ratio 1 262144)) → Within (value (cond b (x ⊘ f .end) one₃₂)) (cond b (value x /ℚ value (f .end)) (ratio 1 1)) (ratio 1 262144)
     go true k = k tt

@@ -50,3 +50,7 @@ above-top = refl
 nothing : withinOf (bits 0x7fc0_0000) 0 (2 ^ 32) ≡ false
 unfolding withinOf betweenOf value ofBits le
 nothing = refl
+
+nowhere : betweenOf (bits 0x7fc0_0000) 0 (2 ^ 32) ≡ false
+unfolding betweenOf ofBits
+nowhere = refl

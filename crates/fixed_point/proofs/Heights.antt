@@ -8,6 +8,7 @@ use borrow.Author.Tests.{lt-ltb, le-ltb}
 use lib.Dec.{T, ltb, leb→le}
 use lib.Pow.{pow-pos, pow-add}
 use lib.Ieee.{Float, binary32, ofBits, toBits, fits, lt, le}
+use lib.Ieee.Scale.{finite}
 use Rattle.exact.specs.Fraction.{ratio, ltℚ}
 use Rattle.exact.specs.Value.{value}
 use Rattle.exact.specs.Binary32.{zero₃₂, one₃₂}
@@ -19,6 +20,14 @@ use Rattle.fixed_point.proofs.Bits.{level-parts, Range, bits-quanta}
 use Rattle.fixed_point.proofs.Cases.{least, range}
 use Rattle.fixed_point.specs.Between.{units, betweenOf}
 use Rattle.fixed_point.proofs.Marks.{below-decides, above-decides, ltb-decides, scaled-decides}
+
+-- it is a number
+pub is-number : (x : Float) → Level x → finite x ≡ true
+is-number x l = go (finite x) (level-finite x l)
+  where
+    go : (b : Bool) → T b → b ≡ true
+    go true h = refl
+    go false h = absurd h
 
 pub level-of : (x : Float) → T (fits binary32 x) → le zero₃₂ x ≡ true → le x one₃₂ ≡ true → Level x
 level-of x f a b = record { holds = f; from = subst T (sym a) tt; to = subst T (sym b) tt }
@@ -102,4 +111,4 @@ large x low high l h b e =
     let v : Quanta (2 ^ 149) x (q * K) 0 = subst (λ (z : ℕ). Quanta (2 ^ 149) x ((2 ^ 23 + z % 2 ^ 23) * 2 ^ (z / 2 ^ 23 - 1)) 0) (sym e) (bits-quanta x (l .holds) (range x l h)) in
     let below = scaled-decides (ltℚ (value x) (units low)) (q * W) (low * A) (q * K * W) (low * 2 ^ 149) K k (swap q K W) (regroup low A K (2 ^ 149) (parts b r)) (below-decides x (q * K) (2 ^ 149) low W (pow-pos 149) v) in
     let above = scaled-decides (ltℚ (units high) (value x)) (high * A) (q * W) (high * 2 ^ 149) (q * K * W) K k (regroup high A K (2 ^ 149) (parts b r)) (swap q K W) (above-decides x (q * K) (2 ^ 149) high W (pow-pos 149) v) in
-    rw (tests-agree below (ltb-decides (q * W) (low * A)), tests-agree above (ltb-decides (high * A) (q * W))) refl
+    rw (is-number x l, tests-agree below (ltb-decides (q * W) (low * A)), tests-agree above (ltb-decides (high * A) (q * W))) refl

@@ -1,8 +1,9 @@
--- Storing marks, how many there are, when there are gates; heights that are known, and the definitions held against the Rust; what is promised of every shape and of every block.
+-- Storing marks, how many there are, when there are gates; heights that are known, that what has no value gives none, and the definitions held against the Rust; what is promised of every shape and of every block.
 pub mod Stored
 pub mod Counts
 pub mod OpenGates
 pub mod KnownHeights
+pub mod NoValue
 pub mod Examples
 pub mod Promised
 pub mod EveryShape

@@ -10,6 +10,7 @@ use lib.Ieee.{Float, binary32, ofBits, ofInt, fits, le, div}
 use Rattle.exact.specs.Fraction.{ratio, clampUnitℚ, _≤ℚ_}
 use Rattle.exact.specs.Value.{value}
 use Rattle.exact.specs.Binary32.{_⊗_, bits, zero₃₂}
+use Rattle.exact.proofs.Defined.{value-defined, given-is}
 use Rattle.exact.proofs.Order.{or-cases, lt-at-most}
 use Rattle.lists.proofs.Every.{every, each}
 use Rattle.curve.specs.Curve.{positionOf, drawnOf, Drawn}
@@ -92,7 +93,7 @@ walked-drawn l phase h p =
 -- THE HEIGHT
 pub lfo-drawn : (l : Lfo) (t : Float) → WalkRange l → T (fits binary32 t) → Drawn (lfoHeightOf l t .height) (lfoHeightℚ l t) (cond (le (l .slew) zero₃₂) (ratio 1 262144) (ratio 1 4096))
 unfolding lfoHeightOf lfoHeightℚ
-lfo-drawn l t r f = go (le (l .slew) zero₃₂) (r .slewed)
+lfo-drawn l t r f = rw (given-is (value phase .den) (value-defined phase .1 (spanned .number))) (go (le (l .slew) zero₃₂) (r .slewed))
   where
     phase : Float
     phase = positionOf t ⊗ l .turns

@@ -2,7 +2,7 @@
 use mathlib.Core.Bool.{cond}
 use Prim.Native.Nat.{ℕ, zero, suc}
 use lib.Ieee.{Float, le}
-use Rattle.exact.specs.Fraction.{Fraction, ratio, negℚ, minℚ, maxℚ, clampUnitℚ, _+ℚ_, _-ℚ_, _*ℚ_, _/ℚ_}
+use Rattle.exact.specs.Fraction.{Fraction, ratio, given, negℚ, minℚ, maxℚ, clampUnitℚ, _+ℚ_, _-ℚ_, _*ℚ_, _/ℚ_}
 use Rattle.exact.specs.Value.{value}
 use Rattle.exact.specs.Binary32.{zero₃₂}
 use Rattle.math.specs.Formulas.{minOf}
@@ -32,9 +32,9 @@ levelAfterℚ s limit (suc k) = movedℚ s limit (value (placeOf k)) (value (pla
 unfoldable pub cutAfterℚ : LfoShape → Fraction → Float → ℕ → Fraction
 cutAfterℚ s limit phase k = movedℚ s limit (value (placeOf k)) (value (minOf (placeOf (suc k)) phase)) (levelAfterℚ s limit k)
 
--- The exact height of an LFO: the shape itself at slew 0.
+-- The exact height of an LFO: the shape itself at slew 0. No place reaches a phase that has no value, and then the walk has none either.
 unfoldable pub lfoHeightℚ : Lfo → Float → Fraction
 lfoHeightℚ l t =
     cond (le (l .slew) zero₃₂)
     (clampUnitℚ (shapeℚ (l .shape) (value (phaseOf l t))))
-    (clampUnitℚ (cutAfterℚ (l .shape) (limitℚ (value (l .slew))) (phaseOf l t) (fullSteps (phaseOf l t))))
+    (clampUnitℚ (given (value (phaseOf l t) .den) (cutAfterℚ (l .shape) (limitℚ (value (l .slew))) (phaseOf l t) (fullSteps (phaseOf l t)))))

@@ -15,7 +15,7 @@ use lib.Ieee.Bits.{ofBits-fits}
 use Rattle.exact.specs.Fraction.{Fraction, Defined, ratio, whole, negℚ, floorℚ, ltℚ, _+ℚ_, _-ℚ_, _*ℚ_, _≤ℚ_}
 use Rattle.exact.specs.Value.{value, Equal}
 use Rattle.exact.specs.Binary32.{_⊕_, _⊖_, _⊗_, bits, zero₃₂, half₃₂, one₃₂}
-use Rattle.exact.proofs.Defined.{value-defined}
+use Rattle.exact.proofs.Defined.{value-defined, choice-is, at-floor-is}
 use Rattle.exact.proofs.Parts.{num⁺, num⁻, sum-parts}
 use Rattle.exact.proofs.Order.{≤ℚ-parts, parts-≤ℚ, ≤ℚ-trans, equal-refl, equal-sym, equal-at-most}
 use Rattle.exact.proofs.Inequality.{minus-at-most, at-least-minus, lt-le, nlt-le, scale-le}
@@ -28,7 +28,7 @@ use Rattle.curve.proofs.Positions.{level-finite}
 use Rattle.math.specs.Formulas.{clampOf, floorOf, fractOf}
 use Rattle.math.specs.Series.{fractℚ}
 use Rattle.math.proofs.Fold.{Turned}
-use Rattle.math.proofs.Phase.{Phase, fract-turned}
+use Rattle.math.proofs.Phase.{Phase, phase-finite, fract-turned}
 use Rattle.lfo_shapes.specs.Formula.{two₃₂, seven₃₂, wrapOf, samples, sampleOf, indexOf, sampledOf, triangleOf, squareOf, rampUpOf, rampDownOf, glideOf}
 use Rattle.lfo_shapes.specs.Exact.{wrapℚ, remainder, sampleℚ, triangleℚ, squareℚ, rampUpℚ, rampDownℚ, holdℚ, glideℚ}
 use Rattle.lfo_shapes.proofs.Earlier.{Previous, regular, tie, previous}
@@ -112,11 +112,14 @@ pub triangle-bounded : (p : Float) → T (fits binary32 p) → Phase p → Appro
 triangle-bounded p f h =
     let w = wrap-turned p f h in
     let W = wrapℚ (value p) in
-    equal-shape (triangleOf p) (triangleℚ (value p)) (triangle-fits p) (triangle-exact p f h) (triangle-unit W (ltℚ W (ratio 1 2)) (w .is .right) (lt-le W (ratio 1 2)) (nlt-le W (ratio 1 2)) (turned-unit w))
+    equal-shape (triangleOf p) (triangleℚ (value p)) (triangle-fits p) (triangle-exact p f h)
+    (rw (choice-is W (ratio 1 2) (w .is .right) (lit< tt)) (triangle-unit W (ltℚ W (ratio 1 2)) (w .is .right) (lt-le W (ratio 1 2)) (nlt-le W (ratio 1 2)) (turned-unit w)))
 
 -- ---- SQUARE, RAMP UP AND HOLD
 pub square-bounded : (p : Float) → T (fits binary32 p) → Phase p → Approximates binary32 (squareOf p) (squareℚ (value p)) shapeBound
-square-bounded p f h = equal-shape (squareOf p) (squareℚ (value p)) (square-fits p) (square-exact p f h) (go (ltℚ (wrapℚ (value p)) (ratio 1 2)))
+square-bounded p f h =
+    let W = wrapℚ (value p) in
+    equal-shape (squareOf p) (squareℚ (value p)) (square-fits p) (square-exact p f h) (rw (choice-is W (ratio 1 2) (wrap-turned p f h .is .right) (lit< tt)) (go (ltℚ W (ratio 1 2))))
   where
     go : (b : Bool) → Unit₀₁ (cond b (ratio 1 1) (ratio 0 1))
     go true = record { from = leZ-yes tt; to = leZ-yes tt }
@@ -133,7 +136,7 @@ pub hold-bounded : (p : Float) → T (fits binary32 p) → Phase p → Approxima
 unfolding sampleℚ
 hold-bounded p f h =
     equal-shape (sampledOf p) (holdℚ (value p)) (subst (λ (x : Float). T (fits binary32 x)) (sym (hold-is p f h)) (sample-level (remainder (floorℚ (value p))) .holds)) (hold-exact p f h)
-    (sample-unit (remainder (floorℚ (value p))))
+    (rw (at-floor-is sampleℚ (value p) (value-defined p .1 (phase-finite p h))) (sample-unit (remainder (floorℚ (value p)))))
 
 -- ---- RAMP DOWN
 fall : Expr
@@ -233,13 +236,15 @@ at-tie u U h l =
 -- THE GLIDE, for a phase of at most 2 ^ 24
 pub glide-bounded : (p : Float) → T (fits binary32 p) → Phase p → value p ≤ℚ ratio 16777216 1 → Approximates binary32 (glideOf p) (glideℚ (value p)) blendBound
 unfolding glideOf sampleℚ
-glide-bounded p f h l = go (previous p f h l)
+glide-bounded p f h l =
+    let d = value-defined p .1 (phase-finite p h) in
+    rw (at-floor-is sampleℚ (value p) d, at-floor-is (λ (z : ℤ). sampleℚ (z -ℤ pos 1)) (value p) d) (go (previous p f h l))
   where
     u : Turned (fractOf p) (fractℚ (value p)) (ratio 1 1)
     u = fract-turned p f h
 
     Near : Float → Float → Type 0
-    Near a b = Approximates binary32 (a ⊕ (b ⊖ a) ⊗ fractOf p) (glideℚ (value p)) blendBound
+    Near a b = let z = floorℚ (value p) in Approximates binary32 (a ⊕ (b ⊖ a) ⊗ fractOf p) (sampleℚ (z -ℤ pos 1) +ℚ (sampleℚ z -ℚ sampleℚ (z -ℤ pos 1)) *ℚ fractℚ (value p)) blendBound
 
     go : Previous p → Near (sampledOf (p ⊖ one₃₂)) (sampledOf p)
     go (regular e) =

@@ -13,13 +13,13 @@ use Rattle.exact.specs.Fraction.{Fraction, Defined, ratio, floorℚ, ltℚ, _-�
 use Rattle.exact.specs.Value.{value, Equal}
 use Rattle.exact.specs.Binary32.{_⊖_, _⊗_, zero₃₂, half₃₂, one₃₂}
 use Rattle.exact.proofs.Parts.{num⁺, num⁻, times⁺, times⁻}
-use Rattle.exact.proofs.Defined.{value-defined}
+use Rattle.exact.proofs.Defined.{value-defined, at-floor-is}
 use Rattle.exact.proofs.Order.{≤ℚ-trans, equal-refl, parts-equal, equal-sym, equal-trans, equal-at-most}
 use Rattle.exact.proofs.Inequality.{nlt-le, scale-le}
 use Rattle.exact.proofs.Sterbenz.{sterbenz-of}
 use Rattle.exact.proofs.Quanta.{equal⁺, equal⁻}
 use Rattle.curve.proofs.Positions.{Level, level-finite}
-use Rattle.math.proofs.Fold.{Turned, compared}
+use Rattle.math.proofs.Fold.{Turned, chosen}
 use Rattle.math.proofs.Phase.{Phase, phase-finite}
 use Rattle.lfo_shapes.specs.Formula.{two₃₂, wrapOf, samples, sampledOf, triangleOf, squareOf, rampUpOf}
 use Rattle.lfo_shapes.specs.Exact.{wrapℚ, remainder, sampleℚ, triangleℚ, squareℚ, rampUpℚ, holdℚ}
@@ -67,7 +67,7 @@ unfolding triangleOf
 triangle-exact p f h =
     let w = wrap-turned p f h in
     let W = wrapℚ (value p) in
-    subst (λ (b : Bool). Equal (value (cond b (wrapOf p ⊗ two₃₂) (two₃₂ ⊖ wrapOf p ⊗ two₃₂))) (triangleℚ (value p))) (sym (compared (wrapOf p) half₃₂ (w .is) half-equal))
+    chosen (λ (x : Float) (X : Fraction). Equal (value x) X) (wrapOf p) half₃₂ (w .is) half-equal (wrapOf p ⊗ two₃₂) (two₃₂ ⊖ wrapOf p ⊗ two₃₂) (ratio 2 1 *ℚ W) (ratio 2 1 -ℚ ratio 2 1 *ℚ W)
     (triangle-part (wrapOf p) W (ltℚ W (ratio 1 2)) (nlt-le W (ratio 1 2)) w)
 
 -- ---- SQUARE
@@ -76,7 +76,7 @@ unfolding squareOf
 square-exact p f h =
     let w = wrap-turned p f h in
     let W = wrapℚ (value p) in
-    subst (λ (b : Bool). Equal (value (cond b one₃₂ zero₃₂)) (squareℚ (value p))) (sym (compared (wrapOf p) half₃₂ (w .is) half-equal)) (go (ltℚ W (ratio 1 2)))
+    chosen (λ (x : Float) (X : Fraction). Equal (value x) X) (wrapOf p) half₃₂ (w .is) half-equal one₃₂ zero₃₂ (ratio 1 1) (ratio 0 1) (go (ltℚ W (ratio 1 2)))
   where
     go : (b : Bool) → Equal (value (cond b one₃₂ zero₃₂)) (cond b (ratio 1 1) (ratio 0 1))
     go true = one-equal
@@ -109,4 +109,6 @@ sample-defined n = value-defined (getD samples n half₃₂) .1 (level-finite (g
 
 pub hold-exact : (p : Float) → T (fits binary32 p) → Phase p → Equal (value (sampledOf p)) (holdℚ (value p))
 unfolding sampleℚ
-hold-exact p f h = subst (λ (x : Float). Equal (value x) (holdℚ (value p))) (sym (hold-is p f h)) (equal-refl (sample-defined (remainder (floorℚ (value p)))))
+hold-exact p f h =
+    rw (at-floor-is sampleℚ (value p) (value-defined p .1 (phase-finite p h)))
+    (subst (λ (x : Float). Equal (value x) (sampleℚ (floorℚ (value p)))) (sym (hold-is p f h)) (equal-refl (sample-defined (remainder (floorℚ (value p))))))

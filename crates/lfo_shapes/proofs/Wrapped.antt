@@ -11,7 +11,7 @@ use lib.Ieee.Scale.{finite}
 use Rattle.exact.specs.Fraction.{Fraction, ratio, ltℚ, _≤ℚ_}
 use Rattle.exact.specs.Value.{value, Equal}
 use Rattle.exact.specs.Binary32.{zero₃₂, half₃₂, one₃₂}
-use Rattle.exact.proofs.Defined.{value-defined}
+use Rattle.exact.proofs.Defined.{value-defined, choice-is}
 use Rattle.exact.proofs.Order.{cross, ≤ℚ-parts, ltℚ-parts, equal-refl, le-value}
 use Rattle.exact.proofs.Inequality.{nlt-le, lt-equal}
 use Rattle.math.specs.Formulas.{fractOf}
@@ -60,10 +60,15 @@ unfolding wrapOf
 wrap-turned p f h =
     let t = fract-turned p f h in
     let e = equal-refl (value-defined p .1 (phase-finite p h)) in
-    subst (λ (b : Bool). Turned (cond b one₃₂ (fractOf p)) (wrapℚ (value p)) (ratio 1 1))
+    let P = value p in
+    let R = fractℚ P in
+    rw (choice-is (ratio 0 1) R (lit< tt) (t .is .right) R (ratio 1 1), choice-is (ratio 0 1) P (lit< tt) (e .left) (cond (ltℚ (ratio 0 1) R) R (ratio 1 1)) R)
+    (subst (λ (b : Bool). Turned (cond b one₃₂ (fractOf p)) (cond (ltℚ (ratio 0 1) P) (cond (ltℚ (ratio 0 1) R) R (ratio 1 1)) R) (ratio 1 1))
     (sym (ap (λ (a : Bool). a && le (fractOf p) zero₃₂) (compared zero₃₂ p zero-equal e) ∙ ap (λ (b : Bool). ltℚ (ratio 0 1) (value p) && b) (not-above (fractOf p) zero₃₂ (t .is) zero-equal)))
-    (go (ltℚ (ratio 0 1) (value p) && not (ltℚ (ratio 0 1) (fractℚ (value p)))) t)
+    (go (ltℚ (ratio 0 1) P) (ltℚ (ratio 0 1) R) t))
   where
-    go : (b : Bool) → Turned (fractOf p) (fractℚ (value p)) (ratio 1 1) → Turned (cond b one₃₂ (fractOf p)) (cond b (ratio 1 1) (fractℚ (value p))) (ratio 1 1)
-    go true t = record { holds = one-fits; is = one-equal; above = leZ-yes tt; below = leZ-yes tt }
-    go false t = t
+    go : (a b : Bool) → Turned (fractOf p) (fractℚ (value p)) (ratio 1 1)
+        → Turned (cond (a && not b) one₃₂ (fractOf p)) (cond a (cond b (fractℚ (value p)) (ratio 1 1)) (fractℚ (value p))) (ratio 1 1)
+    go true false t = record { holds = one-fits; is = one-equal; above = leZ-yes tt; below = leZ-yes tt }
+    go true true t = t
+    go false b t = t

@@ -1,10 +1,9 @@
 -- THE EXACT SHAPES: docs/SPECIFICATION.md, "Exact heights". Each is a function of the phase's value; nothing here is rounded. The samples are the numbers
 -- that their floats hold. Definitions only.
-use mathlib.Core.Bool.{not, cond, _&&_}
 use Prim.Native.Nat.{ℕ}
 use lib.IntN.{ℤ, pos, natAbs, _-ℤ_, _*ℤ_}
 use lib.ListN.{getD}
-use Rattle.exact.specs.Fraction.{Fraction, ratio, floorOver, floorℚ, ltℚ, _+ℚ_, _-ℚ_, _*ℚ_}
+use Rattle.exact.specs.Fraction.{Fraction, ratio, floorOver, ifBelow, atFloor, _+ℚ_, _-ℚ_, _*ℚ_}
 use Rattle.exact.specs.Value.{value}
 use Rattle.exact.specs.Binary32.{half₃₂}
 use Rattle.math.specs.Series.{fractℚ, sinTurnsℚ}
@@ -14,7 +13,7 @@ use Rattle.lfo_shapes.specs.Formula.{samples}
 
 -- What a phase has above its floor, and 1 where the phase is above 0 and whole.
 abbrev pub wrapℚ : Fraction → Fraction
-wrapℚ P = cond (ltℚ (ratio 0 1) P && not (ltℚ (ratio 0 1) (fractℚ P))) (ratio 1 1) (fractℚ P)
+wrapℚ P = ifBelow (ratio 0 1) P (ifBelow (ratio 0 1) (fractℚ P) (fractℚ P) (ratio 1 1)) (fractℚ P)
 
 -- The remainder of a cycle's number by 8, from 0 to 7, and the sample that it names.
 abbrev pub remainder : ℤ → ℕ
@@ -27,10 +26,10 @@ abbrev pub sineℚ : Fraction → Fraction
 sineℚ P = ratio 1 2 +ℚ ratio 1 2 *ℚ sinTurnsℚ P
 
 abbrev pub triangleℚ : Fraction → Fraction
-triangleℚ P = cond (ltℚ (wrapℚ P) (ratio 1 2)) (ratio 2 1 *ℚ wrapℚ P) (ratio 2 1 -ℚ ratio 2 1 *ℚ wrapℚ P)
+triangleℚ P = ifBelow (wrapℚ P) (ratio 1 2) (ratio 2 1 *ℚ wrapℚ P) (ratio 2 1 -ℚ ratio 2 1 *ℚ wrapℚ P)
 
 abbrev pub squareℚ : Fraction → Fraction
-squareℚ P = cond (ltℚ (wrapℚ P) (ratio 1 2)) (ratio 1 1) (ratio 0 1)
+squareℚ P = ifBelow (wrapℚ P) (ratio 1 2) (ratio 1 1) (ratio 0 1)
 
 abbrev pub rampUpℚ : Fraction → Fraction
 rampUpℚ P = wrapℚ P
@@ -39,11 +38,11 @@ abbrev pub rampDownℚ : Fraction → Fraction
 rampDownℚ P = ratio 1 1 -ℚ wrapℚ P
 
 abbrev pub holdℚ : Fraction → Fraction
-holdℚ P = sampleℚ (floorℚ P)
+holdℚ P = atFloor sampleℚ P
 
 -- From the sample of the cycle before, by the part of the cycle that has gone.
 abbrev pub previousℚ : Fraction → Fraction
-previousℚ P = sampleℚ (floorℚ P -ℤ pos 1)
+previousℚ P = atFloor (λ z. sampleℚ (z -ℤ pos 1)) P
 
 abbrev pub glideℚ : Fraction → Fraction
 glideℚ P = previousℚ P +ℚ (holdℚ P -ℚ previousℚ P) *ℚ fractℚ P

@@ -7,7 +7,7 @@ use Prim.Native.Nat.{ℕ, _^_}
 use lib.IntN.{ℤ, pos, negℤ}
 use lib.Signed.{leZ}
 use lib.Dec.{T}
-use Rattle.exact.specs.Fraction.{Fraction, ratio, floorℚ, ltℚ, negℚ, absℚ, _-ℚ_, _*ℚ_}
+use Rattle.exact.specs.Fraction.{Fraction, ratio, floorℚ, ltℚ, given, ifBelow, negℚ, absℚ, _-ℚ_, _*ℚ_}
 use Rattle.math.specs.Horner.{hornerℚ}
 use Rattle.math.specs.Series.{terms, factorial, sinTurnsℚ, sineOfCycleℚ, sineOfQuarterℚ, sineOfAngleℚ, sineTerms, sineTerm, exp2ℚ, exp2Terms, exp2Term, log2ℚ, log2Over, log2At, log2Mantissaℚ, log2Seriesℚ, log2Terms, log2Term, exponentOf}
 use Rattle.lists.proofs.Rows.{allPass}
@@ -60,7 +60,7 @@ sineRows =
     ∷ (negℚ (ratio 99 100), decimal 627905195293133760761782245656311331225, decimal 627905195293133760761254612223026479451) ∷ []
 
 sine-agrees : T (allPass (near sinTurnsℚ plainly) sineRows)
-unfolding allPass sineRows near decimal sinTurnsℚ sineOfCycleℚ sineOfQuarterℚ sineOfAngleℚ sineTerms sineTerm terms factorial hornerℚ
+unfolding allPass sineRows near decimal given ifBelow sinTurnsℚ sineOfCycleℚ sineOfQuarterℚ sineOfAngleℚ sineTerms sineTerm terms factorial hornerℚ
 sine-agrees = tt
 
 -- ---- 2 ^ s: whole s, and others on both sides of 0

@@ -1,6 +1,6 @@
 -- THE FOLDS OF sin_turns LOSE NOTHING: of a turn's part from 0 to 1 the half turn and the quarter turn in binary32 are the exact ones, and so is the sign.
 -- The differences are exact by Sterbenz's lemma, and the float comparisons are the exact comparisons. Assumes nothing.
-use mathlib.Core.Path.{_≡_, sym, ap, subst, _∙_}
+use mathlib.Core.Path.{_≡_, sym, ap, subst₂, _∙_}
 use mathlib.Core.Bool.{Bool, true, false, not, cond}
 use Prim.Native.Nat.{ℕ, _+_, _*_, _≤_}
 use native.Mathlib.Omega.{arith}
@@ -8,12 +8,12 @@ use lib.Signed.{leZ-yes}
 use lib.Dec.{T, lit<}
 use lib.Ieee.{Float, binary32, ofBits, neg, lt, fits}
 use lib.Ieee.Fits.{sub-fits}
-use Rattle.exact.specs.Fraction.{Fraction, ratio, _+ℚ_, _-ℚ_, _≤ℚ_, ltℚ}
+use Rattle.exact.specs.Fraction.{Fraction, ratio, _+ℚ_, _-ℚ_, _≤ℚ_, ltℚ, ifBelow}
 use Rattle.exact.specs.Value.{value, Equal}
 use Rattle.exact.specs.Binary32.{_⊖_, quarter₃₂, half₃₂, one₃₂}
 use Rattle.exact.proofs.Parts.{num⁺, num⁻, sum-parts}
 use Rattle.exact.proofs.Order.{≤ℚ-parts, parts-≤ℚ, ≤ℚ-trans, equal-refl, lt-value}
-use Rattle.exact.proofs.Defined.{value-defined}
+use Rattle.exact.proofs.Defined.{value-defined, choice-is}
 use Rattle.exact.proofs.Sterbenz.{half-minus, minus-half}
 use Rattle.exact.proofs.Inequality.{minus-at-most, at-least-minus, lt-le, nlt-le, lt-equal}
 use Rattle.math.specs.Formulas.{halfOf, quarterOf, signOf}
@@ -42,6 +42,11 @@ half-fits = tt
 pub compared : (x y : Float) {A B : Fraction} → Equal (value x) A → Equal (value y) B → lt x y ≡ ltℚ A B
 compared x y e d = lt-value x y (value-defined x .0 (e .left)) (value-defined y .0 (d .left)) ∙ lt-equal e d
 
+-- and so is the choice by it
+pub chosen : (P : Float → Fraction → Type 0) (x y : Float) {A B : Fraction} → Equal (value x) A → Equal (value y) B → (u v : Float) (U W : Fraction)
+    → P (cond (ltℚ A B) u v) (cond (ltℚ A B) U W) → P (cond (lt x y) u v) (ifBelow A B U W)
+chosen P x y {A} {B} e d u v U W h = subst₂ P (ap (λ (b : Bool). cond b u v) (sym (compared x y e d))) (sym (choice-is A B (e .right) (d .right) U W)) h
+
 -- ---- to the half turn
 to-half : (c : Float) (C : Fraction) (b : Bool) → (T b → C ≤ℚ ratio 1 2) → (T (not b) → ratio 1 2 ≤ℚ C) → Turned c C (ratio 1 1) → Turned (cond b c (c ⊖ half₃₂)) (cond b C (C -ℚ ratio 1 2)) (ratio 1 2)
 to-half c C true u v h = record { holds = h .holds; is = h .is; above = h .above; below = u tt }
@@ -56,7 +61,7 @@ to-half c C false u v h =
 pub half-turn : (c : Float) (C : Fraction) → Turned c C (ratio 1 1) → Turned (halfOf c) (halfℚ C) (ratio 1 2)
 unfolding halfOf
 half-turn c C h =
-    subst (λ (b : Bool). Turned (cond b c (c ⊖ half₃₂)) (halfℚ C) (ratio 1 2)) (sym (compared c half₃₂ (h .is) half-equal))
+    chosen (λ (x : Float) (X : Fraction). Turned x X (ratio 1 2)) c half₃₂ (h .is) half-equal c (c ⊖ half₃₂) C (C -ℚ ratio 1 2)
     (to-half c C (ltℚ C (ratio 1 2)) (lt-le C (ratio 1 2)) (nlt-le C (ratio 1 2)) h)
 
 -- ---- to the quarter turn
@@ -85,7 +90,7 @@ to-quarter a A true u v h =
 pub quarter-turn : (a : Float) (A : Fraction) → Turned a A (ratio 1 2) → Turned (quarterOf a) (quarterℚ A) (ratio 1 4)
 unfolding quarterOf
 quarter-turn a A h =
-    subst (λ (b : Bool). Turned (cond b (half₃₂ ⊖ a) a) (quarterℚ A) (ratio 1 4)) (sym (compared quarter₃₂ a quarter-equal (h .is)))
+    chosen (λ (x : Float) (X : Fraction). Turned x X (ratio 1 4)) quarter₃₂ a quarter-equal (h .is) (half₃₂ ⊖ a) a (ratio 1 2 -ℚ A) A
     (to-quarter a A (ltℚ (ratio 1 4) A) (lt-le (ratio 1 4) A) (nlt-le (ratio 1 4) A) h)
 
 -- ---- the sign of the half turn

@@ -1,6 +1,6 @@
 -- THE EXACT SINE PASSES 1 BY AT MOST 3.21 MILLIONTHS over a quarter turn, so that the exact height 0.5 + 0.5 sin_turns lies from -27 * 2 ^ -24 to 1 + 27 * 2 ^ -24. Up to 5/32 of a turn, and of
 -- the terms from order 9 up, intervals say so; the rest is the polynomial of SinePolynomial. Assumes nothing.
-use mathlib.Core.Path.{_≡_, refl, ap, subst, subst₂}
+use mathlib.Core.Path.{_≡_, refl, sym, ap, subst, subst₂}
 use mathlib.Core.Logic.{_⊎_, inl, inr}
 use mathlib.Core.Bool.{Bool, true, false, cond}
 use Prim.Native.Nat.{ℕ, suc, _+_, _-_, _*_, _/_, _^_, _≤_, _<_}
@@ -13,6 +13,7 @@ use lib.Signed.{leZ-yes}
 use lib.Ieee.{Float, binary32, ofBits, fits}
 use Rattle.exact.specs.Fraction.{Fraction, ratio, whole, negℚ, ltℚ, _+ℚ_, _*ℚ_, _≤ℚ_}
 use Rattle.exact.proofs.Parts.{num⁺, num⁻, neg⁺, neg⁻, mul⁺, mul⁻, times⁺, times⁻, sum-parts}
+use Rattle.exact.proofs.Defined.{choice-is}
 use Rattle.exact.proofs.Order.{≤ℚ-parts, parts-≤ℚ, ≤ℚ-trans, ≤ℚ-total}
 use Rattle.exact.proofs.Bounds.{lower-at, upper-at}
 use Rattle.exact.proofs.Analyser.{Bound, Expr, var, approx, times, Approximates, Lower, Upper, plain, evalExact, analyse}
@@ -225,7 +226,9 @@ sine-enclosed x f p =
     let q = quarterOf (halfOf (fractOf x)) in
     let Q = quarterℚ (halfℚ C) in
     let t = quarter-turn (halfOf (fractOf x)) (halfℚ C) (half-turn (fractOf x) C c) in
-    let z = sized (ltℚ C (ratio 1 2)) (sineOfQuarterℚ Q) 100000321 100000000 (sine-least q Q t) (sine-most q Q t) in
+    let z =
+    subst (λ (s : Fraction). Sized (s *ℚ sineOfQuarterℚ Q) 100000321 100000000) (sym (choice-is C (ratio 1 2) (c .is .right) (lit< tt) (whole (pos 1)) (whole (negsuc 0))))
+    (sized (ltℚ C (ratio 1 2)) (sineOfQuarterℚ Q) 100000321 100000000 (sine-least q Q t) (sine-most q Q t)) in
     record {
       defined = h .defined;
       near = h .near;

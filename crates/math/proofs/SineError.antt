@@ -10,6 +10,7 @@ use lib.Ieee.{Float, binary32, ofBits, neg, fits}
 use Rattle.exact.specs.Fraction.{Fraction, ratio, whole, ltℚ, _+ℚ_, _*ℚ_}
 use Rattle.exact.specs.Value.{value, Within}
 use Rattle.exact.specs.Binary32.{_⊕_, _⊗_, bits, half₃₂, one₃₂}
+use Rattle.exact.proofs.Defined.{choice-is}
 use Rattle.exact.proofs.Bounds.{lower-at, upper-at}
 use Rattle.exact.proofs.Analyser.{Bound, Expr, var, constant, approx, plus, times, Approximates, plain, evalFloat, evalExact, analyse}
 use Rattle.exact.proofs.Soundness.{plainly}
@@ -72,7 +73,7 @@ quarter-height b q Q h =
 turn-height : (c : Float) (C : Fraction) → Turned c C (ratio 1 1) → Approximates binary32 (half₃₂ ⊕ half₃₂ ⊗ sineOfCycle c) (ratio 1 2 +ℚ ratio 1 2 *ℚ sineOfCycleℚ C) heightBound
 unfolding sineOfCycle sineOfCycleℚ
 turn-height c C h =
-    rw (half-sign c C h) (signs (ltℚ C (ratio 1 2)))
+    rw (half-sign c C h, choice-is C (ratio 1 2) (h .is .right) (lit< tt) (whole (pos 1)) (whole (negsuc 0))) (signs (ltℚ C (ratio 1 2)))
   where
     q : Turned (quarterOf (halfOf c)) (quarterℚ (halfℚ C)) (ratio 1 4)
     q = quarter-turn (halfOf c) (halfℚ C) (half-turn c C h)

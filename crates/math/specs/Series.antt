@@ -5,7 +5,7 @@ use Prim.Native.Nat.{ℕ, zero, suc, _+_, _-_, _*_, _/_, _%_, _^_}
 use lib.IntN.{ℤ, pos, negsuc, negℤ}
 use lib.Dec.{eqb, leb}
 use lib.Ieee.{size}
-use Rattle.exact.specs.Fraction.{Fraction, ratio, whole, powerOfTwo, floorℚ, ltℚ, negℚ, _+ℚ_, _-ℚ_, _*ℚ_, _/ℚ_}
+use Rattle.exact.specs.Fraction.{Fraction, ratio, whole, powerOfTwo, floorℚ, ifBelow, negℚ, _+ℚ_, _-ℚ_, _*ℚ_, _/ℚ_}
 use Rattle.math.specs.Horner.{hornerℚ}
 
 -- t k, t (k + 1), .. : n terms of a series
@@ -17,7 +17,7 @@ unfoldable pub factorial : ℕ → ℕ
 factorial zero = 1
 factorial (suc n) = suc n * factorial n
 
--- what is left of a number above its floor
+-- what is left of a number above its floor: of what has no value it has none either, since the number itself stands in it
 abbrev pub fractℚ : Fraction → Fraction
 fractℚ a = a -ℚ whole (floorℚ a)
 
@@ -36,13 +36,13 @@ sineTerms = terms sineTerm 0 11
 
 -- from 0..1 to the half turn and to the quarter turn, and the half's sign
 abbrev pub halfℚ : Fraction → Fraction
-halfℚ c = cond (ltℚ c (ratio 1 2)) c (c -ℚ ratio 1 2)
+halfℚ c = ifBelow c (ratio 1 2) c (c -ℚ ratio 1 2)
 
 abbrev pub quarterℚ : Fraction → Fraction
-quarterℚ h = cond (ltℚ (ratio 1 4) h) (ratio 1 2 -ℚ h) h
+quarterℚ h = ifBelow (ratio 1 4) h (ratio 1 2 -ℚ h) h
 
 abbrev pub signℚ : Fraction → Fraction
-signℚ c = cond (ltℚ c (ratio 1 2)) (whole (pos 1)) (whole (negsuc 0))
+signℚ c = ifBelow c (ratio 1 2) (whole (pos 1)) (whole (negsuc 0))
 
 unfoldable pub sineOfAngleℚ : Fraction → Fraction
 sineOfAngleℚ a = a *ℚ hornerℚ sineTerms (a *ℚ a)

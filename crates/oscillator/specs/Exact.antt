@@ -13,7 +13,7 @@ use Rattle.oscillator.specs.Formula.{wavesOf}
 unfoldable pub sawℚ : Fraction → Fraction
 sawℚ P = P *ℚ ratio 2 1 -ℚ ratio 1 1
 
--- 1 on the side below the width, -1 on the other
+-- 1 on the side below the width, -1 on the other. No position is below a width that is a NaN.
 unfoldable pub pulseℚ : Bool → Fraction
 pulseℚ below = cond below (whole (pos 1)) (whole (negsuc 0))
 
