@@ -1,5 +1,5 @@
 -- WHAT IS PROMISED OF A HEIGHT FOLLOWS FROM ITS EQUATION, by the theorem over every code and every block. Assumes nothing.
-use mathlib.Core.Path.{_≡_, _∙_}
+use mathlib.Core.Path.{_≡_, ap, _∙_}
 use mathlib.Core.List.{List}
 use Prim.Native.Nat.{ℕ, _<_}
 use lib.Dec.{T}
@@ -14,9 +14,10 @@ use Rattle.block.specs.declared.HeightAnswer.the-variants.{Height as AHe
 use Rattle.codes.specs.Codes.{codeOf}
 use Rattle.codes.specs.Bytes.{byteAt, blockLength}
 use Rattle.block.specs.Shapes.{shapeOf}
-use Rattle.block.specs.Refusals.{chosenOf, heightAnswer}
+use Rattle.block.specs.Refusals.{chosenOf, heightAnswer, heightRefusal}
 use Rattle.block.specs.Promises.{HeightAnswered}
 use Rattle.block.proofs.KnownCode.{known-chosen}
+use Rattle.block.proofs.Refused.{height-checked}
 use Rattle.block.proofs.EveryCode.{block-height}
 
 -- a block of 242 bytes and a known code are given a height
@@ -30,5 +31,6 @@ pub height-answered : (block : List ℕ) (code : ℕ) (t : Float) (r : HeightAns
 height-answered block code t r b f e =
     record {
       equation = e;
+      refusal = ap heightRefusal e ∙ height-checked block code t;
       given = λ c k l. record { height = heightOf (shapeOf c (byteAt block)) t; answer = e ∙ accepted block code t c k l; promised = block-height c (byteAt block) b t f };
     }
