@@ -9,7 +9,7 @@ use lib.ListN.{length, getD}
 use lib.Ieee.{Float, nan}
 use Rattle.generator.specs.Generator.{generatorOf}
 use Rattle.generator.specs.Heights.{heightOf}
-use Rattle.strip.specs.Strip.{samplePosition, lengthFits, stepsOf, stripOf}
+use Rattle.strip.specs.Strip.{samplePosition, lengthFits, stripOf}
 use Rattle.strip.proofs.Samples.{sample-fits, strip-length, strip-at}
 use Rattle.refusals.specs.declared.Refusal.the-variants.{Strip}
 use Rattle.refusals.specs.Refusals.{accepted, checkBlock, checkCode, checkLength}
@@ -29,31 +29,31 @@ use Rattle.block_strip.specs.declared.StripAnswer.the-variants.{Filled a
 use Rattle.block_strip.specs.Strips.{stripAnswer, stripAfter, stripRefusal}
 use Rattle.block_strip.specs.Promises.{Sampled, StripAnswered}
 
--- ---- a strip keeps its length
-after-length : (a : Chosen) (xs : List Float) → length (stripAfter a xs) ≡ length xs
-unfolding stripAfter
-after-length (AGenerator g) xs = strip-length (g .shape) xs
-after-length (Refused r) xs = refl
-
--- ---- it is refused where the choice is, then by its length
+-- ---- a strip is refused where the choice is, then by its length
 strip-checked : (block : List ℕ) (code n : ℕ) → stripRefusal (stripAnswer (chosenOf block code) n) ≡ checkBlock (length block) (checkCode code (checkLength n accepted))
 unfolding stripAnswer refusalOr checkLength
 strip-checked block code n = same (chosenOf block code) ∙ chosen-checked (checkLength n accepted) block code
   where
     same : (a : Chosen) → stripRefusal (stripAnswer a n) ≡ refusalOr (checkLength n accepted) a
-    same (AGenerator g) = go (lengthFits n)
+    same (AGenerator g) = go (lengthFits n) _
       where
-        go : (b : Bool) → stripRefusal (cond b (AStrip (stepsOf (g .shape) n)) (NoStrip Strip)) ≡ cond b accepted 3
-        go true = refl
-        go false = refl
+        go : (b : Bool) (steps : ℕ) → stripRefusal (cond b (AStrip steps) (NoStrip Strip)) ≡ cond b accepted 3
+        go true steps = refl
+        go false steps = refl
     same (Refused r) = refl
 
--- ---- each sample
--- a block of 242 bytes and a known code fill the strip with the heights of the code's shape
+-- ---- a block of 242 bytes and a known code fill it with the heights of the code's shape
 filled : (block : List ℕ) (code : ℕ) (xs : List Float) (c : Code) → codeOf code ≡ Known c → length block ≡ blockLength → stripAfter (chosenOf block code) xs ≡ stripOf (shapeOf c (byteAt block)) xs
 unfolding stripAfter generatorOf
 filled block code xs c k l = simp (known-chosen block code c k l)
 
+-- ---- it keeps its length
+after-length : (a : Chosen) (xs : List Float) → length (stripAfter a xs) ≡ length xs
+unfolding stripAfter
+after-length (AGenerator g) xs = strip-length (g .shape) xs
+after-length (Refused r) xs = refl
+
+-- ---- THE PROMISE
 pub strip-answered : (block : List ℕ) (code : ℕ) (before after : List Float) (r : StripAnswer) → ((n : ℕ) → byteAt block n < 256)
     → r ≡ stripAnswer (chosenOf block code) (length before) → after ≡ stripAfter (chosenOf block code) before → StripAnswered block code before after r
 strip-answered block code before after r b e a =
