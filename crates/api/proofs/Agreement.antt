@@ -14,7 +14,19 @@ use Rattle.api.specs.Agreement.{SameAnswers}
 
 pub same-answers : (c : Code) (x y : List ℕ) (code : ℕ) → length x ≡ blockLength → length y ≡ blockLength → codeOf code ≡ Known c → Agree (bytesOf c) (byteAt x) (byteAt y)
     → SameAnswers x y code
-same-answers c x y code lx ly k h = record { settings = simp e; height = λ t. simp e; steps = λ n. simp e; strip = λ before. simp e; captions = λ before. simp e; marks = simp e; rest = simp e; scale = simp e; anchored = simp e }
+same-answers c x y code lx ly k h =
+    record {
+      settings = simp e;
+      height = λ t. simp e;
+      steps = λ n. simp e;
+      strip = λ before. simp e;
+      captioned = λ n. simp e;
+      captions = λ before. simp e;
+      marks = simp e;
+      rest = simp e;
+      scale = simp e;
+      anchored = simp e;
+    }
   where
     e : chosenOf x code ≡ chosenOf y code
     e = agreement-chosen c x y code lx ly k h

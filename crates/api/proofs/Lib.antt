@@ -1,5 +1,5 @@
--- The floats of an array; what is promised of an answer, or of a strip, follows from its equations; blocks that agree have the same answers.
+-- The floats of an array; what is promised of an answer follows from its equations; what is refused; blocks that agree have the same answers.
 pub mod Held
 pub mod Answered
-pub mod Strips
+pub mod Refused
 pub mod Agreement

@@ -4,9 +4,8 @@ use mathlib.Core.List.{List}
 use Prim.Native.Nat.{ℕ}
 use lib.Ieee.{Float}
 use Rattle.block.specs.Refusals.{chosenOf, heightAnswer}
-use Rattle.block_strip.specs.Strips.{stripAfter}
-use Rattle.block_strip.specs.Strips.{stripAnswer}
-use Rattle.api.specs.Answers.{settingsAnswer, captionsAfter, marksAnswer, restAnswer, scaleAnswer, anchoredAnswer}
+use Rattle.block_strip.specs.Strips.{stripAnswer, stripAfter}
+use Rattle.api.specs.Answers.{settingsAnswer, captionsAnswer, captionsAfter, marksAnswer, restAnswer, scaleAnswer, anchoredAnswer}
 
 -- Two blocks give a code the same answers throughout.
 pub record SameAnswers (x y : List ℕ) (code : ℕ) : Type 0 where
@@ -14,6 +13,7 @@ pub record SameAnswers (x y : List ℕ) (code : ℕ) : Type 0 where
   pub height : (t : Float) → heightAnswer (chosenOf x code) t ≡ heightAnswer (chosenOf y code) t
   pub steps : (n : ℕ) → stripAnswer (chosenOf x code) n ≡ stripAnswer (chosenOf y code) n
   pub strip : (before : List Float) → stripAfter (chosenOf x code) before ≡ stripAfter (chosenOf y code) before
+  pub captioned : (n : ℕ) → captionsAnswer (chosenOf x code) n ≡ captionsAnswer (chosenOf y code) n
   pub captions : (before : List ℕ) → captionsAfter (chosenOf x code) before ≡ captionsAfter (chosenOf y code) before
   pub marks : marksAnswer (chosenOf x code) ≡ marksAnswer (chosenOf y code)
   pub rest : restAnswer (chosenOf x code) ≡ restAnswer (chosenOf y code)

@@ -1,4 +1,5 @@
--- THE ANSWERS: docs/SPECIFICATION.md, "The three demands". Each is a function of what the block and the code choose: a generator's formula, or the refusal. Definitions only.
+-- THE ANSWERS: docs/SPECIFICATION.md, "What is offered to callers". Each is a function of what the block and the code choose: a generator's formula, or the refusal. Beside each stands the number of
+-- its refusal, 0 where there is none. Definitions only.
 use mathlib.Core.Bool.{cond}
 use mathlib.Core.List.{List}
 use Prim.Native.Nat.{ℕ}
@@ -12,6 +13,7 @@ use Rattle.captions.specs.declared.Captioned.{Captioned}
 use Rattle.captions.specs.declared.Captioned.the-variants.{Written, WrongLength}
 use Rattle.captions.specs.Captions.{answerOf as captioned, captionsOf}
 use Rattle.refusals.specs.declared.Refusal.the-variants.{Block, Strip}
+use Rattle.refusals.specs.Refusals.{accepted, refusalNumber}
 use Rattle.block.specs.declared.Chosen.{Chosen}
 use Rattle.block.specs.declared.Chosen.the-variants.{Generator as AGenerator, Refused}
 use Rattle.codes.specs.Bytes.{byteAt, gatesByte, blockLength}
@@ -28,9 +30,17 @@ use Rattle.api.specs.declared.AnchoredAnswer.{AnchoredAnswer}
 use Rattle.api.specs.declared.AnchoredAnswer.the-variants.{Anchored, Refused as NoAnchor}
 use Rattle.api.specs.declared.GatesAnswer.{GatesAnswer}
 
+abbrev pub answerRefusal : Answer → ℕ
+answerRefusal Accepted = accepted
+answerRefusal (IsRefused why) = refusalNumber why
+
 unfoldable pub settingsAnswer : Chosen → SettingsAnswer
 settingsAnswer (AGenerator g) = Settings (g .shape)
 settingsAnswer (Refused r) = NoSettings r
+
+abbrev pub settingsRefusal : SettingsAnswer → ℕ
+settingsRefusal (Settings s) = accepted
+settingsRefusal (NoSettings why) = refusalNumber why
 
 -- Captions of n samples, and what their slice holds afterwards.
 unfoldable pub captionedAnswer : Captioned → Answer
@@ -50,17 +60,32 @@ unfoldable pub marksAnswer : Chosen → MarksAnswer
 marksAnswer (AGenerator g) = record { answer = Accepted; marks = marksOf (g .shape) }
 marksAnswer (Refused r) = record { answer = IsRefused r; marks = noMarks }
 
+abbrev pub marksRefusal : MarksAnswer → ℕ
+marksRefusal found = answerRefusal (found .answer)
+
 unfoldable pub restAnswer : Chosen → RestAnswer
 restAnswer (AGenerator g) = Rest (restOf (g .shape))
 restAnswer (Refused r) = NoRest r
+
+abbrev pub restRefusal : RestAnswer → ℕ
+restRefusal (Rest x) = accepted
+restRefusal (NoRest why) = refusalNumber why
 
 unfoldable pub scaleAnswer : Chosen → ScaleAnswer
 scaleAnswer (AGenerator g) = AScale (g .scale)
 scaleAnswer (Refused r) = NoScale r
 
+abbrev pub scaleRefusal : ScaleAnswer → ℕ
+scaleRefusal (AScale s) = accepted
+scaleRefusal (NoScale why) = refusalNumber why
+
 unfoldable pub anchoredAnswer : Chosen → AnchoredAnswer
 anchoredAnswer (AGenerator g) = Anchored (anchoredOf (g .shape))
 anchoredAnswer (Refused r) = NoAnchor r
+
+abbrev pub anchoredRefusal : AnchoredAnswer → ℕ
+anchoredRefusal (Anchored b) = accepted
+anchoredRefusal (NoAnchor why) = refusalNumber why
 
 -- The gates meet the first refusal only; beside it there are none, as of a byte of 0.
 unfoldable pub gatesAnswer : List ℕ → GatesAnswer

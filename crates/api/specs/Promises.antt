@@ -1,10 +1,11 @@
--- WHAT IS PROMISED OF STRIPS AND TAPS: docs/SPECIFICATION.md, "The three demands". Definitions only.
+-- WHAT IS PROMISED OF THE ANSWERS: docs/SPECIFICATION.md, "What is offered to callers"; of taps, "The three demands". A height's promise is HeightAnswered (block/specs/Promises), a strip's StripAnswered
+-- (block_strip/specs/Promises). Definitions only.
 use mathlib.Core.Path.{_≡_}
 use mathlib.Core.List.{List}
 use Prim.Native.Nat.{ℕ, _<_}
 use lib.Dec.{T}
-use lib.ListN.{length, getD}
-use lib.Ieee.{Float, nan, le}
+use lib.ListN.{length}
+use lib.Ieee.{Float, le}
 use lib.Ieee.Scale.{finite}
 use Rattle.exact.specs.Binary32.{zero₃₂, one₃₂}
 use Rattle.exact.specs.Fraction.{ratio}
@@ -13,31 +14,29 @@ use Rattle.curve.specs.Curve.{Drawn}
 use Rattle.taps.specs.declared.Taps.{Taps}
 use Rattle.taps.specs.Formula.{usedOf, atOf, tallOf, tapsHeightOf}
 use Rattle.taps.specs.Exact.{tapsHeightℚ}
-use Rattle.strip.specs.Strip.{samplePosition, lengthFits}
-use Rattle.codes.specs.declared.Code.{Code}
-use Rattle.codes.specs.declared.CodeRead.the-variants.{Known}
-use Rattle.block_strip.specs.declared.StripAnswer.{StripAnswer}
-use Rattle.codes.specs.Codes.{codeOf}
-use Rattle.codes.specs.Bytes.{byteAt, blockLength}
+use Rattle.refusals.specs.Refusals.{accepted, checkBlock, checkCode, checkLength}
+use Rattle.block.specs.declared.Chosen.{Chosen}
 use Rattle.block.specs.Refusals.{chosenOf}
-use Rattle.block_strip.specs.Strips.{stripAfter}
-use Rattle.block_strip.specs.Strips.{stripAnswer}
-use Rattle.block.specs.Promises.{CodePromised}
+use Rattle.api.specs.declared.Answer.{Answer}
+use Rattle.api.specs.declared.GatesAnswer.{GatesAnswer}
+use Rattle.api.specs.Answers.{answerRefusal, captionsAnswer, captionsAfter}
 
--- ---- of a strip
--- Sample i of a strip, of n: it is the height at its own position, and of that height all is promised that belongs to the code and the block's bytes.
-pub record Sampled (c : Code) (block : List ℕ) (strip : List Float) (i : ℕ) : Type 0 where
-  pub height : Height
-  pub holds : getD strip i nan ≡ height .height
-  pub promised : CodePromised c (byteAt block) (samplePosition (length strip) i) height
+-- ---- of a block and a code
+-- The answer is that of the formulas, refusals included. It is refused by the first check that fails, and by nothing else: `number` is that of an answer's refusal.
+pub record Answered {A : Type 0} (answer : Chosen → A) (number : A → ℕ) (block : List ℕ) (code : ℕ) (r : A) : Type 0 where
+  pub equation : r ≡ answer (chosenOf block code)
+  pub refusal : number r ≡ checkBlock (length block) (checkCode code accepted)
 
--- The answer and what the strip holds afterwards are those of the formulas, refusals included; a strip keeps its length. A block of 242 bytes, a known code and a length from 2 to 4,096 are given
--- every sample.
-pub record StripAnswered (block : List ℕ) (code : ℕ) (before after : List Float) (r : StripAnswer) : Type 0 where
-  pub equation : r ≡ stripAnswer (chosenOf block code) (length before)
-  pub strip : after ≡ stripAfter (chosenOf block code) before
-  pub size : length after ≡ length before
-  pub given : (c : Code) → codeOf code ≡ Known c → length block ≡ blockLength → T (lengthFits (length before)) → (i : ℕ) → i < length before → Sampled c block after i
+-- Captions likewise; their length is checked last.
+pub record CaptionsAnswered (block : List ℕ) (code : ℕ) (before after : List ℕ) (r : Answer) : Type 0 where
+  pub equation : r ≡ captionsAnswer (chosenOf block code) (length before)
+  pub captions : after ≡ captionsAfter (chosenOf block code) before
+  pub refusal : answerRefusal r ≡ checkBlock (length block) (checkCode code (checkLength (length before) accepted))
+
+-- Gates, or bars, of a block: its length alone is checked.
+pub record GatesAnswered (answer : List ℕ → GatesAnswer) (block : List ℕ) (r : GatesAnswer) : Type 0 where
+  pub equation : r ≡ answer block
+  pub refusal : answerRefusal (r .answer) ≡ checkBlock (length block) accepted
 
 -- ---- of taps
 -- Every tap that is used falls at a number, and its height is a number from 0 to 1; the others may hold anything.

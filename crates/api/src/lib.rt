@@ -1,11 +1,9 @@
 // What is offered to callers: a block and a code give settings, heights, strips, captions, marks, the rest level, the scale and the anchor, and a block its gates and bars; taps give their
 // height.
-ghost use mathlib.Core.Path.{_≡_};
-ghost use lib.ListN.{length};
-ghost use Rattle.block.specs.Refusals.{chosenOf};
 ghost use Rattle.block.specs.Promises.{HeightAnswered};
-ghost use Rattle.api.specs.Answers.{settingsAnswer, marksAnswer, restAnswer, scaleAnswer, anchoredAnswer, captionsAnswer, captionsAfter, gatesAnswer, barsAnswer};
-ghost use Rattle.api.specs.Promises.{StripAnswered, TapsAnswered};
+ghost use Rattle.block_strip.specs.Promises.{StripAnswered};
+ghost use Rattle.api.specs.Answers.{settingsAnswer, settingsRefusal, marksAnswer, marksRefusal, restAnswer, restRefusal, scaleAnswer, scaleRefusal, anchoredAnswer, anchoredRefusal, gatesAnswer, barsAnswer};
+ghost use Rattle.api.specs.Promises.{Answered, CaptionsAnswered, GatesAnswered, TapsAnswered};
 use block::BLOCK;
 use block::Chosen;
 use block::HeightAnswer;
@@ -61,7 +59,7 @@ pub struct GatesAnswer {
 
 // ---- of a block and a code
 pub fn settings(block: &[u8], code: u32) -> SettingsAnswer
-    ensures { λ r. ⌜ r ≡ settingsAnswer (chosenOf (now (block .entry)) code) ⌝ }
+    ensures { λ r. ⌜ Answered settingsAnswer settingsRefusal (now (block .entry)) code r ⌝ }
 {
     let chosen = choose(block, code);
     match chosen {
@@ -80,7 +78,7 @@ pub fn height(block: &[u8], code: u32, t: f32) -> HeightAnswer
 }
 
 pub fn marks(block: &[u8], code: u32) -> MarksAnswer
-    ensures { λ r. ⌜ r ≡ marksAnswer (chosenOf (now (block .entry)) code) ⌝ }
+    ensures { λ r. ⌜ Answered marksAnswer marksRefusal (now (block .entry)) code r ⌝ }
 {
     let chosen = choose(block, code);
     match chosen {
@@ -96,7 +94,7 @@ pub fn marks(block: &[u8], code: u32) -> MarksAnswer
 }
 
 pub fn rest(block: &[u8], code: u32) -> RestAnswer
-    ensures { λ r. ⌜ r ≡ restAnswer (chosenOf (now (block .entry)) code) ⌝ }
+    ensures { λ r. ⌜ Answered restAnswer restRefusal (now (block .entry)) code r ⌝ }
 {
     let chosen = choose(block, code);
     match chosen {
@@ -106,7 +104,7 @@ pub fn rest(block: &[u8], code: u32) -> RestAnswer
 }
 
 pub fn scale(block: &[u8], code: u32) -> ScaleAnswer
-    ensures { λ r. ⌜ r ≡ scaleAnswer (chosenOf (now (block .entry)) code) ⌝ }
+    ensures { λ r. ⌜ Answered scaleAnswer scaleRefusal (now (block .entry)) code r ⌝ }
 {
     let chosen = choose(block, code);
     match chosen {
@@ -116,7 +114,7 @@ pub fn scale(block: &[u8], code: u32) -> ScaleAnswer
 }
 
 pub fn anchored(block: &[u8], code: u32) -> AnchoredAnswer
-    ensures { λ r. ⌜ r ≡ anchoredAnswer (chosenOf (now (block .entry)) code) ⌝ }
+    ensures { λ r. ⌜ Answered anchoredAnswer anchoredRefusal (now (block .entry)) code r ⌝ }
 {
     let chosen = choose(block, code);
     match chosen {
@@ -134,7 +132,7 @@ pub fn strip(block: &[u8], code: u32, out: &mut [f32]) -> StripAnswer
 
 // Fills the slice with the caption of each sample. What is refused leaves it as it was.
 pub fn captions(block: &[u8], code: u32, out: &mut [u8]) -> Answer
-    ensures { λ r. ⌜ (r ≡ captionsAnswer (chosenOf (now (block .entry)) code) (length (now (out .entry)))) × (now (out .exit) ≡ captionsAfter (chosenOf (now (block .entry)) code) (now (out .entry))) ⌝ }
+    ensures { λ r. ⌜ CaptionsAnswered (now (block .entry)) code (now (out .entry)) (now (out .exit)) r ⌝ }
 {
     let chosen = choose(block, code);
     match chosen {
@@ -151,7 +149,7 @@ pub fn captions(block: &[u8], code: u32, out: &mut [u8]) -> Answer
 
 // ---- of a block alone
 pub fn gates(block: &[u8]) -> GatesAnswer
-    ensures { λ r. ⌜ r ≡ gatesAnswer (now (block .entry)) ⌝ }
+    ensures { λ r. ⌜ GatesAnswered gatesAnswer (now (block .entry)) r ⌝ }
 {
     if block.len() != BLOCK {
         return GatesAnswer {
@@ -167,7 +165,7 @@ pub fn gates(block: &[u8]) -> GatesAnswer
 
 // The gates, joined where they touch.
 pub fn bars(block: &[u8]) -> GatesAnswer
-    ensures { λ r. ⌜ r ≡ barsAnswer (now (block .entry)) ⌝ }
+    ensures { λ r. ⌜ GatesAnswered barsAnswer (now (block .entry)) r ⌝ }
 {
     let found = gates(block);
     let answer = found.answer;

@@ -14,9 +14,10 @@ use Rattle.block.specs.declared.HeightAnswer.{HeightAnswer}
 use Rattle.block.specs.declared.HeightAnswer.the-variants.{Height as AHeight}
 use Rattle.codes.specs.Codes.{codeOf}
 use Rattle.codes.specs.Bytes.{byteAt, blockLength}
-use Rattle.block.specs.Refusals.{chosenOf, heightAnswer}
+use Rattle.block.specs.Refusals.{chosenOf, heightAnswer, heightRefusal}
 use Rattle.block.specs.Promises.{HeightAnswered}
 use Rattle.block.proofs.KnownCode.{known-chosen}
+use Rattle.block.proofs.Refused.{height-checked}
 use Rattle.block.proofs.EveryCode.{block-height}
 
 -- a block of 242 bytes and a known code are given a height: the one that `heightAnswer` has
@@ -30,6 +31,7 @@ unfolding accepted generatorOf
 height-answered block code t r b f e =
     record {
       equation = e;
+      refusal = ap heightRefusal e ∙ height-checked block code t;
       given = λ c k l.
           let a = accepted block code t c k l in
           record { height = a .0; answer = e ∙ a .1; promised = block-height c (byteAt block) b t f };

@@ -25,29 +25,23 @@ use Rattle.codes.specs.declared.LfoId.the-variants.{One as LfoOne, Two as LfoTw
 use Rattle.codes.specs.declared.OscillatorId.the-variants.{One, Two}
 use Rattle.codes.specs.declared.CodeRead.{CodeRead}
 use Rattle.codes.specs.declared.CodeRead.the-variants.{Known, Above}
-use Rattle.block.specs.declared.Chosen.{Chosen}
-use Rattle.block.specs.declared.Chosen.the-variants.{Generator as AGenerator, Refused}
 use Rattle.codes.specs.Codes.{codes, codeIn, codeOf}
 use Rattle.codes.specs.Bytes.{bytesOf, blockLength}
 use Rattle.block.specs.Shapes.{envelopeAt, lfoAt, oscillatorAt, shapeOf}
 use Rattle.block.specs.Refusals.{settledBy, settledOf, chosenBy, chosenOf}
-use Rattle.refusals.specs.Refusals.{refusalNumber}
+use Rattle.block.proofs.Refused.{refusalOr}
+use Rattle.refusals.specs.Refusals.{accepted}
 
 -- ---- refusals
--- the number of an answer, 0 where nothing is refused
-answered : Chosen → ℕ
-answered (AGenerator g) = 0
-answered (Refused r) = refusalNumber r
-
 -- the block's length, the code, the number
 rows : List (ℕ × ℕ × ℕ)
 rows = (241, 0, 1) ∷ (243, 0, 1) ∷ (0, 0, 1) ∷ (241, 14, 1) ∷ (243, 255, 1) ∷ (242, 0, 0) ∷ (242, 13, 0) ∷ (242, 14, 2) ∷ (242, 255, 2) ∷ []
 
 gives : ℕ × ℕ × ℕ → Bool
-gives r = eqb (answered (chosenOf (replicate (r .0) 0) (r .1))) (r .2)
+gives r = eqb (refusalOr accepted (chosenOf (replicate (r .0) 0) (r .1))) (r .2)
 
 refusals-agree : T (allPass gives rows)
-unfolding allPass gives rows answered chosenBy chosenOf settledOf settledBy codes codeIn
+unfolding allPass gives rows refusalOr chosenBy chosenOf settledOf settledBy codes codeIn
 refusals-agree = tt
 
 -- ---- settings

@@ -1,4 +1,5 @@
--- The bytes that decide what a code draws, what is promised of its heights, what a known code chooses; refusals that are known beforehand.
+-- What is refused, the bytes that decide what a code draws, what a known code chooses, what is promised of its heights; refusals that are known beforehand.
+pub mod Refused
 pub mod Agreement
 pub mod KnownCode
 pub mod EveryCode

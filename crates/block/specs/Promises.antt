@@ -12,6 +12,7 @@ use Rattle.curve.specs.Curve.{Drawn}
 use Rattle.settings.specs.Settings.{isOn}
 use Rattle.lfo.specs.Steps.{Steps}
 use Rattle.generator.specs.Heights.{heightℚ, walkPhase}
+use Rattle.refusals.specs.Refusals.{accepted, checkBlock, checkCode}
 use Rattle.codes.specs.declared.Code.{Code}
 use Rattle.codes.specs.declared.Code.the-variants.{Envelope, Lfo, LfoUnipolar, Fade, LowPass, HighPass, Oscillator, Noise}
 use Rattle.codes.specs.declared.CodeRead.the-variants.{Known}
@@ -20,7 +21,7 @@ use Rattle.block.specs.declared.HeightAnswer.the-variants.{Height as AHe
 use Rattle.codes.specs.Codes.{codeOf}
 use Rattle.codes.specs.Bytes.{lfoFirst, byteAt, blockLength}
 use Rattle.block.specs.Shapes.{shapeOf}
-use Rattle.block.specs.Refusals.{chosenOf, heightAnswer}
+use Rattle.block.specs.Refusals.{chosenOf, heightAnswer, heightRefusal}
 
 -- Whether a code's height is walked: an LFO's, where its slew byte, four past its first, is not 0.
 unfoldable pub slewedCode : Code → (ℕ → ℕ) → Bool
@@ -61,7 +62,8 @@ pub record HeightGiven (c : Code) (block : List ℕ) (t : Float) (r : HeightAnsw
   pub answer : r ≡ AHeight height
   pub promised : CodePromised c (byteAt block) t height
 
--- The answer is that of the formulas, refusals included. A block of 242 bytes and a known code are given a height.
+-- The answer is that of the formulas, refusals included. It is refused by the first check that fails, and by nothing else. A block of 242 bytes and a known code are given a height.
 pub record HeightAnswered (block : List ℕ) (code : ℕ) (t : Float) (r : HeightAnswer) : Type 0 where
   pub equation : r ≡ heightAnswer (chosenOf block code) t
+  pub refusal : heightRefusal r ≡ checkBlock (length block) (checkCode code accepted)
   pub given : (c : Code) → codeOf code ≡ Known c → length block ≡ blockLength → HeightGiven c block t r

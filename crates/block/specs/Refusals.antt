@@ -9,6 +9,7 @@ use Rattle.generator.specs.Generator.{generatorOf}
 use Rattle.generator.specs.Heights.{heightOf}
 use Rattle.refusals.specs.declared.Refusal.{Refusal}
 use Rattle.refusals.specs.declared.Refusal.the-variants.{Block, Code}
+use Rattle.refusals.specs.Refusals.{accepted, refusalNumber}
 use Rattle.codes.specs.declared.CodeRead.{CodeRead}
 use Rattle.codes.specs.declared.CodeRead.the-variants.{Known, Above}
 use Rattle.block.specs.declared.Settled.{Settled}
@@ -41,3 +42,8 @@ chosenOf block code = chosenBy (settledOf block code) (byteAt block)
 unfoldable pub heightAnswer : Chosen → Float → HeightAnswer
 heightAnswer (AGenerator g) t = AHeight (heightOf (g .shape) t)
 heightAnswer (Refused r) t = NoHeight r
+
+-- The number of its refusal, 0 where there is none.
+abbrev pub heightRefusal : HeightAnswer → ℕ
+heightRefusal (AHeight h) = accepted
+heightRefusal (NoHeight why) = refusalNumber why

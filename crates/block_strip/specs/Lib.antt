@@ -1,2 +1,3 @@
--- What a strip answers, and what it holds afterwards.
+-- What a strip answers and holds afterwards, and what is promised of it.
 pub mod Strips
+pub mod Promises

@@ -4,6 +4,7 @@ use mathlib.Core.List.{List}
 use Prim.Native.Nat.{ℕ}
 use lib.Ieee.{Float}
 use Rattle.refusals.specs.declared.Refusal.the-variants.{Strip}
+use Rattle.refusals.specs.Refusals.{accepted, refusalNumber}
 use Rattle.strip.specs.Strip.{lengthFits, stepsOf, stripOf}
 use Rattle.block.specs.declared.Chosen.{Chosen}
 use Rattle.block.specs.declared.Chosen.the-variants.{Generator as AGenerator, Refused}
@@ -14,6 +15,11 @@ use Rattle.block_strip.specs.declared.StripAnswer.the-variants.{Filled a
 unfoldable pub stripAnswer : Chosen → ℕ → StripAnswer
 stripAnswer (AGenerator g) n = cond (lengthFits n) (AStrip (stepsOf (g .shape) n)) (NoStrip Strip)
 stripAnswer (Refused r) n = NoStrip r
+
+-- The number of its refusal, 0 where there is none.
+abbrev pub stripRefusal : StripAnswer → ℕ
+stripRefusal (AStrip n) = accepted
+stripRefusal (NoStrip why) = refusalNumber why
 
 -- What the strip holds afterwards.
 unfoldable pub stripAfter : Chosen → List Float → List Float

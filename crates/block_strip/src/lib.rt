@@ -5,8 +5,7 @@ ghost use lib.ListN.{length};
 ghost use Rattle.strip.specs.Strip.{filledOf, stepSum};
 ghost use Rattle.codes.specs.Bytes.{byteAt, blockLength};
 ghost use Rattle.block.specs.Shapes.{shapeOf};
-ghost use Rattle.block.specs.Refusals.{chosenOf};
-ghost use Rattle.block_strip.specs.Strips.{stripAnswer, stripAfter};
+ghost use Rattle.block_strip.specs.Promises.{StripAnswered};
 use block::Settled;
 use block::envelope_at;
 use block::fade_at;
@@ -58,7 +57,7 @@ pub fn strip_at(block: &[u8], code: Code, out: &mut [f32]) -> u32
 
 // The strip of what is settled, from the left edge to the right; its length is tested last. What is refused leaves it as it was.
 pub fn strip(block: &[u8], code: u32, out: &mut [f32]) -> StripAnswer
-    ensures { λ r. ⌜ (r ≡ stripAnswer (chosenOf (now (block .entry)) code) (length (now (out .entry)))) × (now (out .exit) ≡ stripAfter (chosenOf (now (block .entry)) code) (now (out .entry))) ⌝ }
+    ensures { λ r. ⌜ StripAnswered (now (block .entry)) code (now (out .entry)) (now (out .exit)) r ⌝ }
 {
     let settled = settle(block, code);
     match settled {

@@ -1,2 +1,2 @@
--- What is returned for an answer is returned for one equal to it.
+-- What is returned for taps, or for marks, is returned for those equal to them.
 pub mod Same

@@ -1,4 +1,4 @@
--- ANSWERS AS NUMBERS: docs/SPECIFICATION.md, "The C interface". The refusal's number, 0 for none; beside a refusal all else is 0. Definitions only.
+-- ANSWERS AS NUMBERS: docs/SPECIFICATION.md, "The C interface". The number of the answer's refusal, 0 for none; beside a refusal all else is 0. Definitions only.
 use mathlib.Core.Bool.{cond}
 use mathlib.Core.List.{List, [], _∷_}
 use Prim.Native.Nat.{ℕ}
@@ -13,9 +13,7 @@ use Rattle.taps.specs.Marks.{tapMarks}
 use Rattle.abi.specs.Numbers.{settingsNumbers}
 use Rattle.lists.specs.Written.{written}
 use Rattle.abi.specs.Arrays.{settingAt, settingsUsed}
-use Rattle.refusals.specs.Refusals.{refusalNumber}
-use Rattle.api.specs.declared.Answer.{Answer}
-use Rattle.api.specs.declared.Answer.the-variants.{Accepted, Refused}
+use Rattle.api.specs.declared.Answer.the-variants.{Accepted}
 use Rattle.block.specs.declared.HeightAnswer.{HeightAnswer}
 use Rattle.block.specs.declared.HeightAnswer.the-variants.{Height as AHeight, Refused as NoHeight}
 use Rattle.block_strip.specs.declared.StripAnswer.{StripAnswer}
@@ -29,6 +27,9 @@ use Rattle.api.specs.declared.AnchoredAnswer.the-variants.{Anchored, Refused as
 use Rattle.api.specs.declared.SettingsAnswer.{SettingsAnswer}
 use Rattle.api.specs.declared.SettingsAnswer.the-variants.{Settings, Refused as NoSettings}
 use Rattle.api.specs.declared.MarksAnswer.{MarksAnswer}
+use Rattle.block.specs.Refusals.{heightRefusal}
+use Rattle.block_strip.specs.Strips.{stripRefusal}
+use Rattle.api.specs.Answers.{settingsRefusal, restRefusal, scaleRefusal, anchoredRefusal}
 use Rattle.juvrada.specs.declared.HeightResult.{HeightResult}
 use Rattle.juvrada.specs.declared.StripResult.{StripResult}
 use Rattle.juvrada.specs.declared.CountResult.{CountResult}
@@ -36,34 +37,30 @@ use Rattle.juvrada.specs.declared.RestResult.{RestResult}
 use Rattle.juvrada.specs.declared.ScaleResult.{ScaleResult}
 use Rattle.juvrada.specs.declared.AnchoredResult.{AnchoredResult}
 
-abbrev pub answerNumber : Answer → ℕ
-answerNumber Accepted = 0
-answerNumber (Refused why) = refusalNumber why
-
 unfoldable pub heightResult : HeightAnswer → HeightResult
-heightResult (AHeight h) = record { refusal = 0; steps = h .steps; height = h .height }
-heightResult (NoHeight why) = record { refusal = refusalNumber why; steps = 0; height = zero₃₂ }
+heightResult (AHeight h) = record { refusal = heightRefusal (AHeight h); steps = h .steps; height = h .height }
+heightResult (NoHeight why) = record { refusal = heightRefusal (NoHeight why); steps = 0; height = zero₃₂ }
 
 unfoldable pub stripResult : StripAnswer → StripResult
-stripResult (Filled n) = record { refusal = 0; steps = n }
-stripResult (NoStrip why) = record { refusal = refusalNumber why; steps = 0 }
+stripResult (Filled n) = record { refusal = stripRefusal (Filled n); steps = n }
+stripResult (NoStrip why) = record { refusal = stripRefusal (NoStrip why); steps = 0 }
 
 unfoldable pub restResult : RestAnswer → RestResult
-restResult (Rest x) = record { refusal = 0; level = x }
-restResult (NoRest why) = record { refusal = refusalNumber why; level = zero₃₂ }
+restResult (Rest x) = record { refusal = restRefusal (Rest x); level = x }
+restResult (NoRest why) = record { refusal = restRefusal (NoRest why); level = zero₃₂ }
 
 unfoldable pub scaleResult : ScaleAnswer → ScaleResult
-scaleResult (AScale s) = record { refusal = 0; kind = scaleNumber s; number = scaleValue s }
-scaleResult (NoScale why) = record { refusal = refusalNumber why; kind = 0; number = zero₃₂ }
+scaleResult (AScale s) = record { refusal = scaleRefusal (AScale s); kind = scaleNumber s; number = scaleValue s }
+scaleResult (NoScale why) = record { refusal = scaleRefusal (NoScale why); kind = 0; number = zero₃₂ }
 
 unfoldable pub anchoredResult : AnchoredAnswer → AnchoredResult
-anchoredResult (Anchored b) = record { refusal = 0; anchored = cond b 1 0 }
-anchoredResult (NoAnchor why) = record { refusal = refusalNumber why; anchored = 0 }
+anchoredResult (Anchored b) = record { refusal = anchoredRefusal (Anchored b); anchored = cond b 1 0 }
+anchoredResult (NoAnchor why) = record { refusal = anchoredRefusal (NoAnchor why); anchored = 0 }
 
 -- The number of settings, and what the lent array holds afterwards: they stand first, and what is behind them is as it was.
 unfoldable pub settingsResult : SettingsAnswer → CountResult
-settingsResult (Settings s) = record { refusal = 0; count = settingsUsed (settingsNumbers s) }
-settingsResult (NoSettings why) = record { refusal = refusalNumber why; count = 0 }
+settingsResult (Settings s) = record { refusal = settingsRefusal (Settings s); count = settingsUsed (settingsNumbers s) }
+settingsResult (NoSettings why) = record { refusal = settingsRefusal (NoSettings why); count = 0 }
 
 unfoldable pub settingsAfter : SettingsAnswer → List Float → List Float
 settingsAfter (Settings s) before = written (settingAt (settingsNumbers s)) (settingsUsed (settingsNumbers s)) before

@@ -1,10 +1,11 @@
 // The C interface, include/juvrada.h: what crate api offers, for callers in another language. A slice is a pointer and a length, an answer a struct of numbers.
 ghost use mathlib.Core.Path.{_≡_};
-ghost use lib.ListN.{length};
-ghost use Rattle.block.specs.Refusals.{chosenOf};
-ghost use Rattle.api.specs.Answers.{settingsAnswer, restAnswer, scaleAnswer, anchoredAnswer, marksAnswer, gatesAnswer, barsAnswer, captionsAnswer, captionsAfter};
-ghost use Rattle.juvrada.specs.Results.{answerNumber, heightResult, stripResult, restResult, scaleResult, anchoredResult, settingsResult, settingsAfter, tapsOf, tapsAnswer};
-ghost use Rattle.juvrada.specs.Promises.{HeightReturned, StripReturned, MarksReturned, GatesReturned, TapsReturned};
+ghost use Rattle.block.specs.Promises.{HeightAnswered};
+ghost use Rattle.block_strip.specs.Promises.{StripAnswered};
+ghost use Rattle.api.specs.Answers.{answerRefusal, settingsAnswer, settingsRefusal, marksAnswer, marksRefusal, restAnswer, restRefusal, scaleAnswer, scaleRefusal, anchoredAnswer, anchoredRefusal, gatesAnswer, barsAnswer};
+ghost use Rattle.api.specs.Promises.{Answered, CaptionsAnswered, GatesAnswered, TapsAnswered};
+ghost use Rattle.juvrada.specs.Results.{heightResult, stripResult, restResult, scaleResult, anchoredResult, settingsResult, settingsAfter, tapsOf, tapsAnswer};
+ghost use Rattle.juvrada.specs.Promises.{Returned, MarksNumbers, GatesNumbers};
 use abi::MAX_SETTINGS;
 use abi::copy_gate_ends;
 use abi::copy_gate_starts;
@@ -71,8 +72,8 @@ pub struct AnchoredResult {
 }
 
 // ---- answers as numbers: the refusal, 0 for none, and beside a refusal nothing but 0
-fn answer_number(answer: Answer) -> u32
-    ensures { λ r. ⌜ r ≡ answerNumber answer ⌝ }
+fn answer_refusal(answer: Answer) -> u32
+    ensures { λ r. ⌜ r ≡ answerRefusal answer ⌝ }
 {
     match answer {
         Answer::Accepted => 0,
@@ -164,14 +165,14 @@ fn anchored_result(answer: AnchoredAnswer) -> AnchoredResult
 // ---- the functions
 #[no_mangle]
 pub extern "C" fn juvrada_height(block: &[u8], code: u32, t: f32) -> HeightResult
-    ensures { λ r. ⌜ HeightReturned (now (block .entry)) code t r ⌝ }
+    ensures { λ r. ⌜ Returned (λ a. r ≡ heightResult a) (HeightAnswered (now (block .entry)) code t) ⌝ }
 {
     height_result(api::height(block, code, t))
 }
 
 #[no_mangle]
 pub extern "C" fn juvrada_strip(block: &[u8], code: u32, out: &mut [f32]) -> StripResult
-    ensures { λ r. ⌜ StripReturned (now (block .entry)) code (now (out .entry)) (now (out .exit)) r ⌝ }
+    ensures { λ r. ⌜ Returned (λ a. r ≡ stripResult a) (StripAnswered (now (block .entry)) code (now (out .entry)) (now (out .exit))) ⌝ }
 {
     strip_result(api::strip(block, code, out))
 }
@@ -182,14 +183,14 @@ fn copy_marks(
     at: &mut [f32; MAX_MARKS],
     kind: &mut [u8; MAX_MARKS],
 ) -> CountResult
-    ensures { λ r. ⌜ MarksReturned found (now (at .entry)) (now (at .exit)) (now (kind .entry)) (now (kind .exit)) r ⌝ }
+    ensures { λ r. ⌜ MarksNumbers found (now (at .entry)) (now (at .exit)) (now (kind .entry)) (now (kind .exit)) r ⌝ }
 {
     let marks = found.marks;
     let answer = found.answer;
     copy_mark_positions(marks, at);
     copy_mark_kinds(marks, kind);
     CountResult {
-        refusal: answer_number(answer),
+        refusal: answer_refusal(answer),
         count: marks_used(marks) as u32,
     }
 }
@@ -201,28 +202,28 @@ pub extern "C" fn juvrada_marks(
     at: &mut [f32; MAX_MARKS],
     kind: &mut [u8; MAX_MARKS],
 ) -> CountResult
-    ensures { λ r. ⌜ MarksReturned (marksAnswer (chosenOf (now (block .entry)) code)) (now (at .entry)) (now (at .exit)) (now (kind .entry)) (now (kind .exit)) r ⌝ }
+    ensures { λ r. ⌜ Returned (λ a. MarksNumbers a (now (at .entry)) (now (at .exit)) (now (kind .entry)) (now (kind .exit)) r) (Answered marksAnswer marksRefusal (now (block .entry)) code) ⌝ }
 {
     copy_marks(api::marks(block, code), at, kind)
 }
 
 #[no_mangle]
 pub extern "C" fn juvrada_rest(block: &[u8], code: u32) -> RestResult
-    ensures { λ r. ⌜ r ≡ restResult (restAnswer (chosenOf (now (block .entry)) code)) ⌝ }
+    ensures { λ r. ⌜ Returned (λ a. r ≡ restResult a) (Answered restAnswer restRefusal (now (block .entry)) code) ⌝ }
 {
     rest_result(api::rest(block, code))
 }
 
 #[no_mangle]
 pub extern "C" fn juvrada_scale(block: &[u8], code: u32) -> ScaleResult
-    ensures { λ r. ⌜ r ≡ scaleResult (scaleAnswer (chosenOf (now (block .entry)) code)) ⌝ }
+    ensures { λ r. ⌜ Returned (λ a. r ≡ scaleResult a) (Answered scaleAnswer scaleRefusal (now (block .entry)) code) ⌝ }
 {
     scale_result(api::scale(block, code))
 }
 
 #[no_mangle]
 pub extern "C" fn juvrada_anchored(block: &[u8], code: u32) -> AnchoredResult
-    ensures { λ r. ⌜ r ≡ anchoredResult (anchoredAnswer (chosenOf (now (block .entry)) code)) ⌝ }
+    ensures { λ r. ⌜ Returned (λ a. r ≡ anchoredResult a) (Answered anchoredAnswer anchoredRefusal (now (block .entry)) code) ⌝ }
 {
     anchored_result(api::anchored(block, code))
 }
@@ -233,7 +234,7 @@ pub extern "C" fn juvrada_settings(
     code: u32,
     out: &mut [f32; MAX_SETTINGS],
 ) -> CountResult
-    ensures { λ r. ⌜ (r ≡ settingsResult (settingsAnswer (chosenOf (now (block .entry)) code))) × (now (out .exit) ≡ settingsAfter (settingsAnswer (chosenOf (now (block .entry)) code)) (now (out .entry))) ⌝ }
+    ensures { λ r. ⌜ Returned (λ a. (r ≡ settingsResult a) × (now (out .exit) ≡ settingsAfter a (now (out .entry)))) (Answered settingsAnswer settingsRefusal (now (block .entry)) code) ⌝ }
 {
     let answer = api::settings(block, code);
     match answer {
@@ -254,9 +255,9 @@ pub extern "C" fn juvrada_settings(
 
 #[no_mangle]
 pub extern "C" fn juvrada_captions(block: &[u8], code: u32, out: &mut [u8]) -> u32
-    ensures { λ r. ⌜ (r ≡ answerNumber (captionsAnswer (chosenOf (now (block .entry)) code) (length (now (out .entry))))) × (now (out .exit) ≡ captionsAfter (chosenOf (now (block .entry)) code) (now (out .entry))) ⌝ }
+    ensures { λ r. ⌜ Returned (λ a. r ≡ answerRefusal a) (CaptionsAnswered (now (block .entry)) code (now (out .entry)) (now (out .exit))) ⌝ }
 {
-    answer_number(api::captions(block, code, out))
+    answer_refusal(api::captions(block, code, out))
 }
 
 // The gates or the bars of an answer.
@@ -265,14 +266,14 @@ fn copy_gates(
     start: &mut [f32; GATES_DRAWN],
     end: &mut [f32; GATES_DRAWN],
 ) -> CountResult
-    ensures { λ r. ⌜ GatesReturned found (now (start .entry)) (now (start .exit)) (now (end .entry)) (now (end .exit)) r ⌝ }
+    ensures { λ r. ⌜ GatesNumbers found (now (start .entry)) (now (start .exit)) (now (end .entry)) (now (end .exit)) r ⌝ }
 {
     let gates = found.gates;
     let answer = found.answer;
     copy_gate_starts(gates, start);
     copy_gate_ends(gates, end);
     CountResult {
-        refusal: answer_number(answer),
+        refusal: answer_refusal(answer),
         count: gates_used(gates) as u32,
     }
 }
@@ -283,7 +284,7 @@ pub extern "C" fn juvrada_gates(
     start: &mut [f32; GATES_DRAWN],
     end: &mut [f32; GATES_DRAWN],
 ) -> CountResult
-    ensures { λ r. ⌜ GatesReturned (gatesAnswer (now (block .entry))) (now (start .entry)) (now (start .exit)) (now (end .entry)) (now (end .exit)) r ⌝ }
+    ensures { λ r. ⌜ Returned (λ a. GatesNumbers a (now (start .entry)) (now (start .exit)) (now (end .entry)) (now (end .exit)) r) (GatesAnswered gatesAnswer (now (block .entry))) ⌝ }
 {
     copy_gates(api::gates(block), start, end)
 }
@@ -294,7 +295,7 @@ pub extern "C" fn juvrada_bars(
     start: &mut [f32; GATES_DRAWN],
     end: &mut [f32; GATES_DRAWN],
 ) -> CountResult
-    ensures { λ r. ⌜ GatesReturned (barsAnswer (now (block .entry))) (now (start .entry)) (now (start .exit)) (now (end .entry)) (now (end .exit)) r ⌝ }
+    ensures { λ r. ⌜ Returned (λ a. GatesNumbers a (now (start .entry)) (now (start .exit)) (now (end .entry)) (now (end .exit)) r) (GatesAnswered barsAnswer (now (block .entry))) ⌝ }
 {
     copy_gates(api::bars(block), start, end)
 }
@@ -317,7 +318,7 @@ pub extern "C" fn juvrada_taps_height(
     used: u32,
     t: f32,
 ) -> HeightResult
-    ensures { λ r. ⌜ TapsReturned (tapsOf (now (at .entry)) (now (tall .entry)) used) t r ⌝ }
+    ensures { λ r. ⌜ Returned (λ h. r ≡ heightResult (HeightAnswer.Height h)) (TapsAnswered (tapsOf (now (at .entry)) (now (tall .entry)) used) t) ⌝ }
 {
     let h = api::taps_height(taps_of(at, tall, used), t);
     height_result(HeightAnswer::Height(h))
@@ -331,7 +332,7 @@ pub extern "C" fn juvrada_taps_marks(
     mark_at: &mut [f32; MAX_MARKS],
     kind: &mut [u8; MAX_MARKS],
 ) -> CountResult
-    ensures { λ r. ⌜ MarksReturned (tapsAnswer (tapsOf (now (at .entry)) (now (tall .entry)) used)) (now («mark_at» .entry)) (now («mark_at» .exit)) (now (kind .entry)) (now (kind .exit)) r ⌝ }
+    ensures { λ r. ⌜ MarksNumbers (tapsAnswer (tapsOf (now (at .entry)) (now (tall .entry)) used)) (now («mark_at» .entry)) (now («mark_at» .exit)) (now (kind .entry)) (now (kind .exit)) r ⌝ }
 {
     let marks = taps::taps_marks(taps_of(at, tall, used));
     let found = MarksAnswer {

@@ -1,9 +1,28 @@
--- THE NUMBERS OF THE REFUSALS: docs/SPECIFICATION.md, "The three demands". 0 is none. Definitions only.
+-- THE REFUSALS: docs/SPECIFICATION.md, "What is offered to callers". Definitions only.
+use mathlib.Core.Bool.{cond, _&&_}
 use Prim.Native.Nat.{ℕ}
+use lib.Dec.{eqb, leb}
 use Rattle.refusals.specs.declared.Refusal.{Refusal}
 use Rattle.refusals.specs.declared.Refusal.the-variants.{Block, Code, Strip}
+
+-- ---- the numbers; 0 is that of an input that is accepted
+abbrev pub accepted : ℕ
+accepted = 0
 
 abbrev pub refusalNumber : Refusal → ℕ
 refusalNumber Block = 1
 refusalNumber Code = 2
 refusalNumber Strip = 3
+
+-- ---- the checks: each gives its number where it fails, else what the checks after it give
+-- A block has 242 bytes.
+unfoldable pub checkBlock : ℕ → ℕ → ℕ
+checkBlock bytes next = cond (eqb bytes 242) next 1
+
+-- A code is at most 13.
+unfoldable pub checkCode : ℕ → ℕ → ℕ
+checkCode code next = cond (leb code 13) next 2
+
+-- A strip, or captions, are of 2 to 4,096 samples.
+unfoldable pub checkLength : ℕ → ℕ → ℕ
+checkLength n next = cond (leb 2 n && leb n 4096) next 3

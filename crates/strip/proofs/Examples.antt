@@ -16,7 +16,7 @@ use Rattle.lfo.specs.Formula.{stepOf, placeOf, fullFrom, fullSteps, walkedOf, l
 use Rattle.generator.specs.declared.Shape.{Shape}
 use Rattle.generator.specs.declared.Shape.the-variants.{Lfo as AnLfo}
 use Rattle.generator.specs.Heights.{heightOf}
-use Rattle.strip.specs.Strip.{samplePosition, lengthFits, stepSum, stepsOf, stripOf}
+use Rattle.strip.specs.Strip.{samplePosition, sampleOf, lengthFits, stepSum, stepsOf, stripOf}
 use Rattle.lists.specs.Written.{written}
 
 -- ---- sample i of n, and the bits of its position
@@ -40,10 +40,10 @@ triangle : ℕ → Shape
 triangle slew = AnLfo (lfoOf 1 slew 0 true)
 
 triangle-strip : stripOf (triangle 0) (one₃₂ ∷ one₃₂ ∷ one₃₂ ∷ one₃₂ ∷ one₃₂ ∷ []) ≡ zero₃₂ ∷ half₃₂ ∷ one₃₂ ∷ half₃₂ ∷ zero₃₂ ∷ []
-unfolding triangle stripOf written heightOf lfoHeightOf drawnOf shapeAtOf triangleOf wrapOf positionOf samplePosition clampOf floorOf fractOf value lfoOf lfoShapeOf byteOf toBits ofBits ofInt isNan lt le eq neg add sub mul div
+unfolding triangle stripOf written heightOf lfoHeightOf drawnOf shapeAtOf triangleOf wrapOf positionOf samplePosition sampleOf clampOf floorOf fractOf value lfoOf lfoShapeOf byteOf toBits ofBits ofInt isNan lt le eq neg add sub mul div
 triangle-strip = refl
 
 -- The walk to phase 0 has 96 steps, that to phase 1 has 192.
 slewed-steps : stepsOf (triangle 1) 2 ≡ 288
-unfolding triangle stepsOf stepSum heightOf lfoHeightOf walkedOf fullSteps fullFrom placeOf stepOf drawnOf positionOf samplePosition clampOf lfoOf lfoShapeOf byteOf toBits ofBits ofInt isNan lt le eq neg add sub mul div
+unfolding triangle stepsOf stepSum heightOf lfoHeightOf walkedOf fullSteps fullFrom placeOf stepOf drawnOf positionOf samplePosition sampleOf clampOf lfoOf lfoShapeOf byteOf toBits ofBits ofInt isNan lt le eq neg add sub mul div
 slewed-steps = refl

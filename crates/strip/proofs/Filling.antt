@@ -8,30 +8,26 @@ use lib.Ieee.{Float}
 use Rattle.curve.specs.declared.Height.{Height}
 use Rattle.generator.specs.declared.Shape.{Shape}
 use Rattle.generator.specs.Heights.{heightOf}
-use Rattle.strip.specs.Strip.{partOf, samplePosition, filledOf, stepSum}
+use Rattle.strip.specs.Strip.{partOf, samplePosition, sampleOf, filledOf, stepSum}
 use Rattle.lists.proofs.Written.{written-next}
-use Rattle.strip.proofs.Laws.{height-steps, sum-at-most}
+use Rattle.strip.proofs.Laws.{sample-steps, sum-at-most}
 
 module _ (s : Shape) (n i : ℕ) where
-  -- The number of the last sample is one less than that of all.
-  sample-at : (last : ℕ) {w : Height} → last ≡ n - 1 → w ≡ heightOf s (partOf i last) → w ≡ heightOf s (samplePosition n i)
-  unfolding samplePosition
-  sample-at last e h = h ∙ ap (λ (k : ℕ). heightOf s (partOf i k)) e
+  -- The height at the position of a sample; the number of the last is one less than that of all.
+  pub at-position : (last : ℕ) {p : Float} {w : Height} → last ≡ n - 1 → p ≡ partOf i last → w ≡ heightOf s p → w ≡ sampleOf s n i
+  unfolding sampleOf samplePosition
+  at-position last e p h = simp (h, p, e)
 
-  -- The height at a position that is a sample's.
-  pub at-position : (last : ℕ) {p : Float} {w : Height} → last ≡ n - 1 → p ≡ partOf i last → w ≡ heightOf s p → w ≡ heightOf s (samplePosition n i)
-  at-position last e p h = sample-at last e (h ∙ ap (heightOf s) p)
-
-  module _ {w : Height} (e : w ≡ heightOf s (samplePosition n i)) where
+  module _ {w : Height} (e : w ≡ sampleOf s n i) where
     pub steps-small : w .steps ≤ 65535
-    steps-small = rw e (height-steps s (samplePosition n i))
+    steps-small = rw e (sample-steps s n i)
 
     pub sum-next : {total : ℕ} → total ≡ stepSum s n i → total + w .steps ≡ stepSum s n (i + 1)
     unfolding stepSum
     sum-next a = simp (a, e, add-one)
 
     pub filled-next : (xs : List Float) {ys : List Float} → ys ≡ filledOf s n i xs → set ys i (w .height) ≡ filledOf s n (i + 1) xs
-    filled-next xs a = written-next (λ (j : ℕ). heightOf s (samplePosition n j) .height) i xs a (ap (λ (h : Height). h .height) e)
+    filled-next xs a = written-next (λ (j : ℕ). sampleOf s n j .height) i xs a (ap (λ (h : Height). h .height) e)
 
   -- One sample more, by its height alone.
   pub level-next : (last : ℕ) {p v : Float} → last ≡ n - 1 → p ≡ partOf i last → v ≡ heightOf s p .height → (xs : List Float) {ys : List Float} → ys ≡ filledOf s n i xs
@@ -44,9 +40,9 @@ module _ (s : Shape) (n i : ℕ) where
 
 -- Where no height takes steps their sum is 0.
 pub stepless : (s : Shape) → ((t : Float) → heightOf s t .steps ≡ 0) → (n k : ℕ) → 0 ≡ stepSum s n k
-unfolding stepSum
+unfolding stepSum sampleOf
 stepless s z n zero = refl
-stepless s z n (suc k) = simp (z (samplePosition n k), sym (stepless s z n k))
+stepless s z n (suc k) = simp (z, sym (stepless s z n k))
 
 -- After the last sample the strip is filled.
 pub filled-whole : (s : Shape) (n : ℕ) (xs : List Float) (i : ℕ) {total : ℕ} {ys : List Float} → i ≡ n → total ≡ stepSum s n i → ys ≡ filledOf s n i xs

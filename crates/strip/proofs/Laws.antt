@@ -18,7 +18,7 @@ use Rattle.lfo.specs.Formula.{placeOf, fullFrom, fullSteps, walkedOf, lfoHeight
 use Rattle.generator.specs.declared.Shape.{Shape}
 use Rattle.generator.specs.declared.Shape.the-variants.{Envelope as AnEnvelope, Fade as AFade, Lfo as AnLfo, Filter as AFilter, Oscillator as AnOscillator, Noise as ANoise}
 use Rattle.generator.specs.Heights.{heightOf}
-use Rattle.strip.specs.Strip.{samplePosition, filledOf, stepSum}
+use Rattle.strip.specs.Strip.{samplePosition, sampleOf, filledOf, stepSum}
 use Rattle.lists.proofs.Written.{written-length, written-at}
 
 -- ---- the steps of one height, whatever the settings and the position
@@ -44,15 +44,20 @@ height-steps (AFilter f) t = omega arith
 height-steps (AnOscillator o) t = omega arith
 height-steps (ANoise n) t = omega arith
 
+pub sample-steps : (s : Shape) (n i : ℕ) → sampleOf s n i .steps ≤ 65535
+unfolding sampleOf
+sample-steps s n i = height-steps s _
+
 -- ---- the sum of the steps: with at most 4,096 samples it fits a u32
 pub sum-at-most : (s : Shape) (n k : ℕ) → stepSum s n k ≤ 65535 * k
 unfolding stepSum
 sum-at-most s n zero = omega arith
-sum-at-most s n (suc k) = omega (arith, sum-at-most s n k, height-steps s (samplePosition n k))
+sum-at-most s n (suc k) = omega (arith, sum-at-most s n k, sample-steps s n k)
 
 -- ---- the samples of a strip that is filled
 pub filled-length : (s : Shape) (n : ℕ) (xs : List Float) → length (filledOf s n n xs) ≡ length xs
-filled-length s n xs = written-length (λ (i : ℕ). heightOf s (samplePosition n i) .height) n xs
+filled-length s n xs = written-length (λ (i : ℕ). sampleOf s n i .height) n xs
 
 pub filled-at : (s : Shape) (n : ℕ) (xs : List Float) (i : ℕ) → n ≤ length xs → i < n → getD (filledOf s n n xs) i nan ≡ heightOf s (samplePosition n i) .height
-filled-at s n xs i h l = written-at (λ (i : ℕ). heightOf s (samplePosition n i) .height) nan n xs i h l
+unfolding sampleOf
+filled-at s n xs i h l = written-at (λ (i : ℕ). sampleOf s n i .height) nan n xs i h l

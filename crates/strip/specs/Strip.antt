@@ -8,6 +8,7 @@ use lib.ListN.{length}
 use lib.Ieee.{Float, binary32, ofInt}
 use Rattle.lists.specs.Written.{written}
 use Rattle.exact.specs.Binary32.{_⊘_}
+use Rattle.curve.specs.declared.Height.{Height}
 use Rattle.generator.specs.declared.Shape.{Shape}
 use Rattle.generator.specs.Heights.{heightOf}
 
@@ -19,18 +20,22 @@ partOf i last = ofInt binary32 (pos i) ⊘ ofInt binary32 (pos last)
 unfoldable pub samplePosition : ℕ → ℕ → Float
 samplePosition n i = partOf i (n - 1)
 
+-- Sample i of n: the height at its own position.
+unfoldable pub sampleOf : Shape → ℕ → ℕ → Height
+sampleOf s n i = heightOf s (samplePosition n i)
+
 -- The lengths of a strip: 2 to 4,096.
 abbrev pub lengthFits : ℕ → Bool
 lengthFits n = leb 2 n && leb n 4096
 
--- A strip with the first k of n samples written: sample i holds the height at its own position.
+-- A strip with the first k of n samples written.
 abbrev pub filledOf : Shape → ℕ → ℕ → List Float → List Float
-filledOf s n k xs = written (λ (i : ℕ). heightOf s (samplePosition n i) .height) k xs
+filledOf s n k xs = written (λ (i : ℕ). sampleOf s n i .height) k xs
 
 -- The steps of the first k of n samples.
 unfoldable pub stepSum : Shape → ℕ → ℕ → ℕ
 stepSum s n zero = 0
-stepSum s n (suc k) = stepSum s n k + heightOf s (samplePosition n k) .steps
+stepSum s n (suc k) = stepSum s n k + sampleOf s n k .steps
 
 -- What is answered for a strip of n samples: the steps of all, none where that length is refused.
 unfoldable pub stepsOf : Shape → ℕ → ℕ

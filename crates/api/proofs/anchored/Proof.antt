@@ -1,7 +1,8 @@
--- `anchored` is `anchoredAnswer`: a return for the generator and one for the refusal. Assumes nothing.
+-- `anchored` is `anchoredAnswer`: a return for the generator and one for the refusal. The rest follows from the equation. Assumes nothing.
 use borrow.Author.Needs.{needs}
 use mathlib.Core.Path.{sym}
 use Rattle.api.specs.Answers.{anchoredAnswer}
+use Rattle.api.proofs.Refused.{answered, anchored-refused}
 use Rattle.api.proofs.anchored.Statement.{statement}
 use Rattle.api.proofs.anchored.Tie as tie
 
@@ -14,5 +15,5 @@ anchored-spec =
     (λ c. search needs)
     (λ c κs. search needs)
     (λ c. search needs)
-    (λ c. simp (sym (c .before .before .before .before .choose .ensures), c .before .before .chosen .given .1, c .anchored .ensures))
-    (λ c. simp (sym (c .before .before .before .choose .ensures), c .before .chosen2 .given .1)))
+    (λ c. answered anchored-refused (simp (sym (c .before .before .before .before .choose .ensures), c .before .before .chosen .given .1, c .anchored .ensures)))
+    (λ c. answered anchored-refused (simp (sym (c .before .before .before .choose .ensures), c .before .chosen2 .given .1))))

@@ -1,7 +1,8 @@
--- `gates` is `gatesAnswer`: a return for the refusal and one for the gates of the byte. Assumes nothing.
+-- `gates` is `gatesAnswer`: a return for the refusal and one for the gates of the byte. The rest follows from the equation. Assumes nothing.
 use borrow.Author.Needs.{needs}
 use borrow.Author.Tests.{eq-eqb, ne-eqb}
 use Rattle.api.specs.Answers.{gatesAnswer}
+use Rattle.api.proofs.Refused.{gates-answered}
 use Rattle.api.proofs.gates.Statement.{statement}
 use Rattle.api.proofs.gates.Tie as tie
 
@@ -11,7 +12,7 @@ gates-spec =
     tie.close
     (tie.spec
     (λ c κs. search needs)
-    (λ c. simp (ne-eqb _ _ (c .before .if1 .taken), c .arpeggiator-gates .ensures))
+    (λ c. gates-answered (simp (ne-eqb _ _ (c .before .if1 .taken), c .arpeggiator-gates .ensures)))
     (λ c. search needs)
     (λ c κs. search needs)
-    (λ c. simp (eq-eqb _ _ (c .before .before .if1 .left), c .arpeggiator-gates2 .ensures)))
+    (λ c. gates-answered (simp (eq-eqb _ _ (c .before .before .if1 .left), c .arpeggiator-gates2 .ensures))))

@@ -1,7 +1,8 @@
--- `marks` is `marksAnswer`: a return for the generator and one for the refusal. Assumes nothing.
+-- `marks` is `marksAnswer`: a return for the generator and one for the refusal. The rest follows from the equation. Assumes nothing.
 use borrow.Author.Needs.{needs}
 use mathlib.Core.Path.{sym}
 use Rattle.api.specs.Answers.{marksAnswer}
+use Rattle.api.proofs.Refused.{answered, marks-refused}
 use Rattle.api.proofs.marks.Statement.{statement}
 use Rattle.api.proofs.marks.Tie as tie
 
@@ -15,5 +16,5 @@ marks-spec =
     (λ c κs. search needs)
     (λ c. search needs)
     (λ c κs. search needs)
-    (λ c. simp (sym (c .before .before .before .before .choose .ensures), c .before .before .chosen .given .1, c .marks .ensures))
-    (λ c. simp (sym (c .before .before .before .before .choose .ensures), c .before .before .chosen2 .given .1, c .no-marks .ensures)))
+    (λ c. answered marks-refused (simp (sym (c .before .before .before .before .choose .ensures), c .before .before .chosen .given .1, c .marks .ensures)))
+    (λ c. answered marks-refused (simp (sym (c .before .before .before .before .choose .ensures), c .before .before .chosen2 .given .1, c .no-marks .ensures))))

@@ -1,7 +1,8 @@
--- `rest` is `restAnswer`: a return for the generator and one for the refusal. Assumes nothing.
+-- `rest` is `restAnswer`: a return for the generator and one for the refusal. The rest follows from the equation. Assumes nothing.
 use borrow.Author.Needs.{needs}
 use mathlib.Core.Path.{sym}
 use Rattle.api.specs.Answers.{restAnswer}
+use Rattle.api.proofs.Refused.{answered, rest-refused}
 use Rattle.api.proofs.rest.Statement.{statement}
 use Rattle.api.proofs.rest.Tie as tie
 
@@ -14,5 +15,5 @@ rest-spec =
     (λ c. search needs)
     (λ c κs. search needs)
     (λ c. search needs)
-    (λ c. simp (sym (c .before .before .before .before .choose .ensures), c .before .before .chosen .given .1, c .rest .ensures))
-    (λ c. simp (sym (c .before .before .before .choose .ensures), c .before .chosen2 .given .1)))
+    (λ c. answered rest-refused (simp (sym (c .before .before .before .before .choose .ensures), c .before .before .chosen .given .1, c .rest .ensures)))
+    (λ c. answered rest-refused (simp (sym (c .before .before .before .choose .ensures), c .before .chosen2 .given .1))))

@@ -1,7 +1,8 @@
--- `scale` is `scaleAnswer`: a return for the generator and one for the refusal. Assumes nothing.
+-- `scale` is `scaleAnswer`: a return for the generator and one for the refusal. The rest follows from the equation. Assumes nothing.
 use borrow.Author.Needs.{needs}
 use mathlib.Core.Path.{sym}
 use Rattle.api.specs.Answers.{scaleAnswer}
+use Rattle.api.proofs.Refused.{answered, scale-refused}
 use Rattle.api.proofs.scale.Statement.{statement}
 use Rattle.api.proofs.scale.Tie as tie
 
@@ -14,5 +15,5 @@ scale-spec =
     (λ c. search needs)
     (λ c κs. search needs)
     (λ c. search needs)
-    (λ c. simp (sym (c .before .before .before .before .choose .ensures), c .before .before .chosen .given .1, c .scale .ensures))
-    (λ c. simp (sym (c .before .before .before .choose .ensures), c .before .chosen2 .given .1)))
+    (λ c. answered scale-refused (simp (sym (c .before .before .before .before .choose .ensures), c .before .before .chosen .given .1, c .scale .ensures)))
+    (λ c. answered scale-refused (simp (sym (c .before .before .before .choose .ensures), c .before .chosen2 .given .1))))

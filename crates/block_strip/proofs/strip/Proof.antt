@@ -1,7 +1,8 @@
--- `strip` answers as `stripAnswer` says and leaves what `stripAfter` says: a return for each refusal and one for the strip that is filled. Assumes nothing.
+-- `strip` answers as `stripAnswer` says and leaves what `stripAfter` says: a return for each refusal and one for the strip that is filled. The rest follows from the two equations. Assumes nothing.
 use Rattle.block.proofs.KnownCode.{settled-length}
 use Rattle.block.specs.Refusals.{chosenBy, chosenOf}
 use Rattle.block_strip.specs.Strips.{stripAnswer, stripAfter}
+use Rattle.block_strip.proofs.Answered.{strip-answered}
 use Rattle.strip.proofs.Lengths.{between}
 use Rattle.strip.specs.Strip.{stepsOf, stripOf}
 use Rattle.generator.specs.Generator.{generatorOf}
@@ -17,7 +18,7 @@ returns c =
     let settled = sym (c .before .before .before .before .before .settle .ensures) in
     let known = c .before .before .before .settled .given .1 in
     let length = sym (c .before .fits2 .ensures) ∙ not-true _ (c .if1 .taken) in
-    (simp (settled, known, length), simp (settled, known, length))
+    strip-answered _ _ _ _ _ (λ n. c .before .before .before .before .before .before .before .shared-slice-known .given n .fits) (simp (settled, known, length)) (simp (settled, known, length))
 
 strip-at-requires : tie.Need-strip-at-requires
 strip-at-requires c κs =
@@ -31,14 +32,15 @@ returns-2 c =
     let known = c .before .before .before .before .before .before .before .settled .given .1 in
     let length = sym (c .before .before .before .before .before .fits2 .ensures) ∙ not-false _ (c .before .before .before .before .if1 .left) in
     let filled = c .before .before .strip-at .ensures in
-    (simp (settled, known, length, filled .0), simp (settled, known, length, filled .1))
+    strip-answered _ _ _ _ _ (λ n. c .before .before .before .before .before .before .before .before .before .before .before .shared-slice-known .given n .fits) (simp (settled, known, length, filled .0))
+    (simp (settled, known, length, filled .1))
 
 returns-3 : tie.Need-returns-3
 unfolding chosenOf chosenBy stripAnswer stripAfter
 returns-3 c =
     let settled = sym (c .before .before .before .settle .ensures) in
     let refused = c .before .settled2 .given .1 in
-    (simp (settled, refused), simp (settled, refused))
+    strip-answered _ _ _ _ _ (λ n. c .before .before .before .before .before .shared-slice-known .given n .fits) (simp (settled, refused)) (simp (settled, refused))
 
 pub strip-spec : {M : Type 1} → statement M
 strip-spec =

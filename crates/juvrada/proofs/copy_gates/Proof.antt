@@ -4,7 +4,7 @@ use Rattle.juvrada.proofs.copy_gates.Statement.{statement}
 use Rattle.juvrada.proofs.copy_gates.Tie as tie
 
 returns : tie.Need-returns
-returns c = record { result = simp (c .gates-used .ensures .0, c .before .answer-number .ensures); start = c .before .before .before .before .copy-gate-starts .ensures; end = c .before .before .copy-gate-ends .ensures }
+returns c = record { result = simp (c .gates-used .ensures .0, c .before .answer-refusal .ensures); start = c .before .before .before .before .copy-gate-starts .ensures; end = c .before .before .copy-gate-ends .ensures }
 
 pub copy-gates-spec : {M : Type 1} → statement M
 copy-gates-spec =

@@ -4,7 +4,7 @@ use Rattle.juvrada.proofs.copy_marks.Statement.{statement}
 use Rattle.juvrada.proofs.copy_marks.Tie as tie
 
 returns : tie.Need-returns
-returns c = record { result = simp (c .marks-used .ensures .0, c .before .answer-number .ensures); at = c .before .before .before .before .copy-mark-positions .ensures; kind = c .before .before .copy-mark-kinds .ensures }
+returns c = record { result = simp (c .marks-used .ensures .0, c .before .answer-refusal .ensures); at = c .before .before .before .before .copy-mark-positions .ensures; kind = c .before .before .copy-mark-kinds .ensures }
 
 pub copy-marks-spec : {M : Type 1} → statement M
 copy-marks-spec =

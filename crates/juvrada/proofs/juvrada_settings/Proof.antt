@@ -1,5 +1,4 @@
--- `juvrada_settings` writes the settings of the sheet's answer. Assumes nothing.
-use mathlib.Core.Path.{sym, _∙_}
+-- `juvrada_settings` writes the settings of the answer. Assumes nothing.
 use Rattle.juvrada.specs.Results.{settingsResult, settingsAfter}
 use borrow.Author.Needs.{needs}
 use Rattle.juvrada.proofs.juvrada_settings.Statement.{statement}
@@ -8,13 +7,17 @@ use Rattle.juvrada.proofs.juvrada_settings.Tie as tie
 returns : tie.Need-returns
 unfolding settingsResult settingsAfter
 returns c =
-    let answer = sym (c .before .before .before .before .before .before .before .settings .ensures) ∙ c .before .before .before .before .before .answer .given .1 in
+    let found = c .before .before .before .before .before .before .before .settings in
+    let answer = c .before .before .before .before .before .answer .given .1 in
     let numbers = c .before .before .before .settings-numbers .ensures in
-    (simp (answer, c .settings-used .ensures .0, numbers), simp (answer, c .before .copy-settings .ensures, numbers))
+    record { answer = found .result; numbers = (simp (answer, c .settings-used .ensures .0, numbers), simp (answer, c .before .copy-settings .ensures, numbers)); promised = found .ensures }
 
 returns-2 : tie.Need-returns-2
 unfolding settingsResult settingsAfter
-returns-2 c = let answer = sym (c .before .before .before .before .settings .ensures) ∙ c .before .before .answer2 .given .1 in (simp (answer, c .refusal-number .ensures), simp answer)
+returns-2 c =
+    let found = c .before .before .before .before .settings in
+    let answer = c .before .before .answer2 .given .1 in
+    record { answer = found .result; numbers = (simp (answer, c .refusal-number .ensures), simp answer); promised = found .ensures }
 
 pub juvrada-settings-spec : {M : Type 1} → statement M
 juvrada-settings-spec =

@@ -6,7 +6,7 @@ use Rattle.juvrada.proofs.juvrada_taps_height.Tie as tie
 
 returns : tie.Need-returns
 returns c =
-    record { height = c .before .taps-height .result; result = c .height-result .ensures; promised = same-taps (c .before .before .taps-of .ensures) (c .before .taps-height .ensures) }
+    record { answer = c .before .taps-height .result; numbers = c .height-result .ensures; promised = same-taps (c .before .before .taps-of .ensures) (c .before .taps-height .ensures) }
 
 pub juvrada-taps-height-spec : {M : Type 1} → statement M
 juvrada-taps-height-spec =

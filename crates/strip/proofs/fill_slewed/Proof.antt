@@ -29,7 +29,7 @@ add-total c =
     let l = c .before .before .before .before in
     let start = l .before .before .before in
     let s = AnLfo (start .args .l) in
-    let w = at-position s _ _ _ (l .before .last-of .ensures) (c .before .before .sample-position .ensures) (c .before .slewed-height .ensures ∙ with-slew _ _ (start .pre .0)) in
+    let w = at-position s _ (l .loop .i) _ (l .before .last-of .ensures) (c .before .before .sample-position .ensures) (c .before .slewed-height .ensures ∙ with-slew _ _ (start .pre .0)) in
     let h = steps-small s _ _ w in
     let k = total-small s _ _ (l .loop .inv .2) in
     omega arith

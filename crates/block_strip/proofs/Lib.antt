@@ -1,0 +1,2 @@
+-- What is promised of a strip follows from its equations.
+pub mod Answered
