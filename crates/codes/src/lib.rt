@@ -41,6 +41,9 @@ pub enum CodeRead {
 // How many codes there are, from 0 up.
 pub const CODES: u8 = 14;
 
+// The first number that is none.
+const ABOVE: u32 = CODES as u32;
+
 // ---- the bytes that have a place of their own
 pub const SOURCE: usize = 16;
 
@@ -89,11 +92,11 @@ pub fn code_from(byte: u8) -> CodeRead
     }
 }
 
-// The code of a wider number: what is no byte is above all codes.
+// The code of a wider number.
 pub fn code_read(number: u32) -> CodeRead
     ensures { λ r. ⌜ r ≡ codeOf number ⌝ }
 {
-    if 255 < number {
+    if ABOVE <= number {
         return CodeRead::Above;
     }
     code_from(number as u8)

@@ -32,8 +32,8 @@ module _ (s : Shape) (n i : ℕ) where
   -- One sample more, by its height alone.
   pub level-next : (last : ℕ) {p v : Float} → last ≡ n - 1 → p ≡ partOf i last → v ≡ heightOf s p .height → (xs : List Float) {ys : List Float} → ys ≡ filledOf s n i xs
       → set ys i v ≡ filledOf s n (i + 1) xs
-  unfolding samplePosition
-  level-next last e p h xs a = written-next (λ (j : ℕ). heightOf s (samplePosition n j) .height) i xs a (h ∙ ap (λ (t : Float). heightOf s t .height) (p ∙ ap (partOf i) e))
+  unfolding sampleOf samplePosition
+  level-next last e p h xs a = written-next (λ (j : ℕ). sampleOf s n j .height) i xs a (simp (h, p, e))
 
   pub total-small : {total : ℕ} → total ≡ stepSum s n i → total ≤ 65535 * i
   total-small a = rw a (sum-at-most s n i)

@@ -6,6 +6,7 @@ ghost use lib.ListN.{length};
 ghost use lib.Ieee.{le};
 ghost use Rattle.exact.specs.Binary32.{zero₃₂};
 ghost use Rattle.strip.specs.Strip.{partOf, lengthFits, filledOf, stepSum};
+use envelope::envelope_height;
 use envelope::envelope_sample;
 use fade::fade_height;
 use filter::filter_height;
@@ -26,6 +27,9 @@ use settings::Oscillator;
 pub const MIN_SAMPLES: usize = 2;
 
 pub const MAX_SAMPLES: usize = 4096;
+
+// Fewer samples of an envelope than these are computed one by one.
+const FEW: usize = 16;
 
 // Where sample i lies, of those from 0 to `last`.
 pub fn sample_position(i: u16, last: u16) -> f32
@@ -51,7 +55,21 @@ pub fn fits(n: usize) -> bool
 
 // ---- a loop for each family, so that the family is matched once and not at every sample. The caller has tested the length. Each answers the sum of the steps, which only an
 // LFO's heights take.
-pub fn fill_envelope(e: Envelope, out: &mut [f32]) -> u32
+fn fill_few_envelope(e: Envelope, out: &mut [f32]) -> u32
+    requires { ⌜ (2 ≤ length (now out)) × (length (now out) ≤ 4096) ⌝ }
+    ensures { λ r. ⌜ (r ≡ stepSum (Shape.Envelope e) (length (now (out .entry))) (length (now (out .entry)))) × (now (out .exit) ≡ filledOf (Shape.Envelope e) (length (now (out .entry))) (length (now (out .entry))) (now (out .entry))) ⌝ }
+{
+    let n = out.len();
+    let last = last_of(n);
+    let mut i: usize = 0;
+    while i < n {
+        out[i] = envelope_height(e, sample_position(i as u16, last)).height;
+        i += 1;
+    }
+    0
+}
+
+fn fill_many_envelope(e: Envelope, out: &mut [f32]) -> u32
     requires { ⌜ (2 ≤ length (now out)) × (length (now out) ≤ 4096) ⌝ }
     ensures { λ r. ⌜ (r ≡ stepSum (Shape.Envelope e) (length (now (out .entry))) (length (now (out .entry)))) × (now (out .exit) ≡ filledOf (Shape.Envelope e) (length (now (out .entry))) (length (now (out .entry))) (now (out .entry))) ⌝ }
 {
@@ -63,6 +81,17 @@ pub fn fill_envelope(e: Envelope, out: &mut [f32]) -> u32
         i += 1;
     }
     0
+}
+
+// Several samples of an envelope are computed at once, which takes more preparation than a few of them are worth.
+pub fn fill_envelope(e: Envelope, out: &mut [f32]) -> u32
+    requires { ⌜ (2 ≤ length (now out)) × (length (now out) ≤ 4096) ⌝ }
+    ensures { λ r. ⌜ (r ≡ stepSum (Shape.Envelope e) (length (now (out .entry))) (length (now (out .entry)))) × (now (out .exit) ≡ filledOf (Shape.Envelope e) (length (now (out .entry))) (length (now (out .entry))) (now (out .entry))) ⌝ }
+{
+    if out.len() < FEW {
+        return fill_few_envelope(e, out);
+    }
+    fill_many_envelope(e, out)
 }
 
 pub fn fill_fade(f: Fade, out: &mut [f32]) -> u32

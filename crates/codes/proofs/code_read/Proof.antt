@@ -1,4 +1,4 @@
--- `code_read` is `codeOf`: a number that is no byte is above. Assumes nothing.
+-- `code_read` is `codeOf`: a number from 14 on is above. Assumes nothing.
 use native.Mathlib.Omega.{arith}
 use Rattle.codes.proofs.Numbers.{code-above}
 use borrow.Author.Needs.{needs}
