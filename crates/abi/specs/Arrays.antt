@@ -2,10 +2,10 @@
 use Prim.Native.Nat.{ℕ, min}
 use lib.ListN.{getD}
 use lib.Ieee.{Float, nan}
-use Rattle.generator.specs.declared.Marks.{Marks}
-use Rattle.generator.specs.declared.Gates.{Gates}
-use Rattle.generator.specs.Marks.{kindNumber, maxMarks, markAt}
-use Rattle.generator.specs.Gates.{gateAt}
+use Rattle.marks.specs.declared.Marks.{Marks}
+use Rattle.gates.specs.declared.Gates.{Gates}
+use Rattle.marks.specs.Marks.{kindNumber, maxMarks, markAt}
+use Rattle.gates.specs.Gates.{gateAt}
 use Rattle.abi.specs.declared.Numbers.{Numbers}
 
 -- The position of mark i, and its kind's number.

@@ -5,9 +5,9 @@ use mathlib.Core.List.{List}
 use Prim.Native.Nat.{ℕ}
 use lib.Dec.{eqb}
 use lib.ListN.{length}
-use Rattle.generator.specs.Generator.{restOf, anchoredOf}
-use Rattle.generator.specs.Marks.{noMarks, marksOf}
-use Rattle.generator.specs.Gates.{gatesOf}
+use Rattle.marks.specs.Marks.{noMarks}
+use Rattle.generator.specs.Generator.{restOf, anchoredOf, marksOf}
+use Rattle.gates.specs.Gates.{gatesOf}
 use Rattle.bars.specs.Bars.{barsOf}
 use Rattle.captions.specs.declared.Captioned.{Captioned}
 use Rattle.captions.specs.declared.Captioned.the-variants.{Written, WrongLength}

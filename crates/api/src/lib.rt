@@ -12,12 +12,12 @@ use block_strip::StripAnswer;
 use captions::Captioned;
 use codes::GATE_TIME;
 use curve::Height;
-use generator::Gates;
-use generator::Marks;
+use gates::Gates;
+use gates::arpeggiator_gates;
 use generator::Scale;
 use generator::Shape;
-use generator::arpeggiator_gates;
-use generator::no_marks;
+use marks::Marks;
+use marks::no_marks;
 use refusals::Refusal;
 use taps::Taps;
 

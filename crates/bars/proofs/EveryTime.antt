@@ -12,7 +12,7 @@ use borrow.Author.Tests.{ne-eqb}
 use Rattle.exact.specs.Binary32.{bits, zero₃₂}
 use Rattle.lists.proofs.Every.{every, each}
 use Rattle.settings.specs.Settings.{byteOf}
-use Rattle.generator.specs.Gates.{gateOf, closed, gatesOf}
+use Rattle.gates.specs.Gates.{gateOf, closed, gatesOf}
 use Rattle.bars.specs.Bars.{touches, joinedFrom, joined, noBars, pushedBar, pushedBars, barsOf}
 
 -- No gate of a byte touches the next.

@@ -8,9 +8,9 @@ use native.Mathlib.Numerals.{add-one}
 use native.Mathlib.Omega.{arith}
 use lib.ListN.{take, getD}
 use lib.Seq.{slice, slice-empty, slice-cons}
-use Rattle.generator.specs.Gates.{closed, gateAt}
-use Rattle.generator.specs.declared.Gate.{Gate}
-use Rattle.generator.specs.declared.Gates.{Gates}
+use Rattle.gates.specs.Gates.{closed, gateAt}
+use Rattle.gates.specs.declared.Gate.{Gate}
+use Rattle.gates.specs.declared.Gates.{Gates}
 use Rattle.bars.specs.Bars.{touches, merged, joinedFrom, joined, noBars, pushedBar, pushedBars, fourGates, barsOf}
 
 four-at : (gates : Gates) (i : ℕ) → i < 4 → getD (fourGates gates) i closed ≡ gateAt gates i

@@ -5,9 +5,9 @@ use Prim.Native.Nat.{ℕ, _+_, min}
 use lib.Dec.{ltb}
 use lib.ListN.{set, take}
 use lib.Ieee.{eq}
-use Rattle.generator.specs.Gates.{closed, gateAt}
-use Rattle.generator.specs.declared.Gate.{Gate}
-use Rattle.generator.specs.declared.Gates.{Gates}
+use Rattle.gates.specs.Gates.{closed, gateAt}
+use Rattle.gates.specs.declared.Gate.{Gate}
+use Rattle.gates.specs.declared.Gates.{Gates}
 
 -- A gate touches the next where it ends just where that one starts: equal as floats, so that a NaN touches nothing.
 unfoldable pub touches : Gate → Gate → Bool

@@ -1,9 +1,9 @@
 // The bars of the arpeggiator: gates that touch, joined.
 ghost use mathlib.Core.Path.{_≡_};
 ghost use Rattle.bars.specs.Bars.{touches, noBars, pushedBar, barsOf};
-use generator::GATES_DRAWN;
-use generator::Gate;
-use generator::Gates;
+use gates::GATES_DRAWN;
+use gates::Gate;
+use gates::Gates;
 use lists::at_most;
 
 // Whether a gate ends where the next one starts.

@@ -7,7 +7,7 @@ use lib.Ieee.{ofBits, ofInt, add, div, lt, le, eq}
 use Rattle.lists.proofs.Rows.{allPass}
 use Rattle.settings.specs.Settings.{byteOf, totalOf, firstOf, secondOf, thirdOf, envelopeOf}
 use Rattle.generator.specs.declared.Shape.the-variants.{Envelope as AnEnvelope}
-use Rattle.generator.specs.Marks.{segmentNumber, envelopeMarks}
+use Rattle.marks.specs.Marks.{segmentNumber, envelopeMarks}
 use Rattle.strip.specs.Strip.{samplePosition}
 use Rattle.lists.specs.Written.{written}
 use Rattle.captions.specs.Captions.{startedBy, segmentFrom, lastSegment, captionOf, captionAt, captionsOf}

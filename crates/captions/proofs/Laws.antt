@@ -9,7 +9,7 @@ use Rattle.settings.specs.declared.Envelope.{Envelope}
 use Rattle.settings.specs.declared.Fade.{Fade}
 use Rattle.generator.specs.declared.Shape.{Shape}
 use Rattle.generator.specs.declared.Shape.the-variants.{Envelope as AnEnvelope, Fade as AFade}
-use Rattle.generator.specs.Marks.{segmentNumber}
+use Rattle.marks.specs.Marks.{segmentNumber}
 use Rattle.strip.specs.Strip.{lengthFits}
 use Rattle.lists.specs.Written.{written}
 use Rattle.strip.proofs.Lengths.{fits-between}

@@ -8,8 +8,8 @@ use borrow.Author.Tests.{eq-eqb, ne-eqb}
 use lib.Ieee.{Float, le}
 use Rattle.exact.specs.Binary32.{zero₃₂}
 use Rattle.settings.specs.declared.Envelope.{Envelope}
-use Rattle.generator.specs.declared.Mark.{Mark}
-use Rattle.generator.specs.Marks.{segmentNumber, envelopeMarks}
+use Rattle.marks.specs.declared.Mark.{Mark}
+use Rattle.marks.specs.Marks.{segmentNumber, envelopeMarks}
 use Rattle.strip.specs.Strip.{partOf, samplePosition}
 use Rattle.captions.specs.Captions.{startedBy, segmentFrom, lastSegment, captionOf}
 

@@ -7,11 +7,11 @@ use lib.ListN.{length}
 use lib.Ieee.{Float, le}
 use Rattle.generator.specs.declared.Shape.{Shape}
 use Rattle.generator.specs.declared.Shape.the-variants.{Envelope as AnEnvelope, Fade as AFade, Lfo as AnLfo, Filter as AFilter, Oscillator as AnOscillator, Noise as ANoise}
-use Rattle.generator.specs.declared.Segment.the-variants.{Attack}
-use Rattle.generator.specs.declared.MarkKind.{MarkKind}
-use Rattle.generator.specs.declared.MarkKind.the-variants.{Segment as ASegment, Corner, Cycle, Tap, Width, Sweep}
-use Rattle.generator.specs.declared.Mark.{Mark}
-use Rattle.generator.specs.Marks.{segmentNumber, envelopeMarks}
+use Rattle.marks.specs.declared.Segment.the-variants.{Attack}
+use Rattle.marks.specs.declared.MarkKind.{MarkKind}
+use Rattle.marks.specs.declared.MarkKind.the-variants.{Segment as ASegment, Corner, Cycle, Tap, Width, Sweep}
+use Rattle.marks.specs.declared.Mark.{Mark}
+use Rattle.marks.specs.Marks.{segmentNumber, envelopeMarks}
 use Rattle.strip.specs.Strip.{samplePosition, lengthFits}
 use Rattle.lists.specs.Written.{written}
 use Rattle.captions.specs.declared.Captioned.{Captioned}

@@ -2,7 +2,7 @@
 ghost use mathlib.Core.Path.{_≡_};
 ghost use Prim.Native.Nat.{_≤_, _+_};
 ghost use lib.ListN.{length};
-ghost use Rattle.generator.specs.Marks.{envelopeMarks};
+ghost use Rattle.marks.specs.Marks.{envelopeMarks};
 ghost use Rattle.lists.specs.Written.{written};
 ghost use Rattle.captions.specs.Captions.{lastSegment, captionOf, captionAt, answerOf, captionsOf};
 use generator::Generator;

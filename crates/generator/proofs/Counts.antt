@@ -1,13 +1,15 @@
 -- HOW MANY MARKS THERE ARE: at most six of any shape, one of an LFO of one turn, and six of an LFO of six. Assumes nothing.
-use mathlib.Core.Path.{_≡_, refl, ap, _∙_}
+use mathlib.Core.Path.{_≡_, ap, _∙_}
 use Prim.Native.Nat.{ℕ, _≤_}
-use lib.Ieee.{Float, ofInt, ofBits, lt}
+use lib.Ieee.{Float}
 use Rattle.exact.specs.Binary32.{bits, one₃₂}
 use Rattle.settings.specs.declared.Lfo.{Lfo}
+use Rattle.marks.specs.Marks.{maxMarks, stored, cyclesOf}
+use Rattle.marks.proofs.Stored.{stored-at-most}
+use Rattle.marks.proofs.Counts.{one-cycle, six-cycles}
 use Rattle.generator.specs.declared.Shape.{Shape}
 use Rattle.generator.specs.declared.Shape.the-variants.{Lfo as AnLfo}
-use Rattle.generator.specs.Marks.{maxMarks, countOf, stored, cyclesFrom, cyclesOf, markList, marksOf}
-use Rattle.generator.proofs.Stored.{stored-at-most}
+use Rattle.generator.specs.Generator.{markList, marksOf}
 
 pub marks-at-most : (s : Shape) → marksOf s .count ≤ maxMarks
 unfolding marksOf
@@ -19,9 +21,7 @@ unfolding marksOf markList
 count-of-turns l turns n h e = ap (λ (x : Float). stored (cyclesOf x) .count) e ∙ h
 
 pub one-turn : (l : Lfo) → l .turns ≡ one₃₂ → marksOf (AnLfo l) .count ≡ 1
-unfolding stored countOf cyclesOf cyclesFrom ofInt ofBits lt
-one-turn l e = count-of-turns l one₃₂ 1 refl e
+one-turn l e = count-of-turns l one₃₂ 1 one-cycle e
 
 pub six-turns : (l : Lfo) → l .turns ≡ bits 0x40c0_0000 → marksOf (AnLfo l) .count ≡ 6
-unfolding stored countOf cyclesOf cyclesFrom ofInt ofBits lt
-six-turns l e = count-of-turns l (bits 0x40c0_0000) 6 refl e
+six-turns l e = count-of-turns l (bits 0x40c0_0000) 6 six-cycles e

@@ -1,7 +1,5 @@
--- Storing marks, how many there are, when there are gates; heights that are known, that what has no value gives none, and the definitions held against the Rust; what is promised of every shape and of every block.
-pub mod Stored
+-- How many marks there are; heights that are known, that what has no value gives none, and the definitions held against the Rust; what is promised of every shape and of every block.
 pub mod Counts
-pub mod OpenGates
 pub mod KnownHeights
 pub mod NoValue
 pub mod Examples

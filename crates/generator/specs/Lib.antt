@@ -1,5 +1,3 @@
--- Generators, their heights and what is promised of them, their marks, and the arpeggiator's gates.
+-- Generators, what they say of themselves, and their heights.
 pub mod Generator
 pub mod Heights
-pub mod Marks
-pub mod Gates

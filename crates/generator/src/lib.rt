@@ -1,16 +1,22 @@
-// A generator: the shape that a set of bytes makes and what its horizontal measures, with its height at every position, its marks, and the arpeggiator's gates.
+// A generator: the shape that a set of bytes makes and what its horizontal measures, with its height at every position, and its marks.
 ghost use mathlib.Core.Path.{_≡_};
 ghost use mathlib.Core.Bool.{true, false};
 ghost use Rattle.settings.specs.Settings.{envelopeOf, lfoOf, fadeOf, lowPassOf, highPassOf, oscillatorOneOf, oscillatorTwoOf, noiseOf};
-ghost use Rattle.generator.specs.Generator.{scaleOf, generatorOf, scaleNumber, scaleValue, restOf, anchoredOf};
+ghost use Rattle.generator.specs.Generator.{scaleOf, generatorOf, scaleNumber, scaleValue, restOf, anchoredOf, marksOf};
 ghost use Rattle.generator.specs.Heights.{heightOf};
-ghost use Rattle.generator.specs.Marks.{segmentNumber, kindNumber, noMarks, markOf, pushed, pushedAll, stored, cyclesOf, envelopeMarks, fadeMarks, pulseMarks, oscillatorMarks, marksOf};
-ghost use Rattle.generator.specs.Gates.{gateOf, gatesOf};
 use curve::Height;
 use envelope::envelope_height;
 use fade::fade_height;
 use filter::filter_height;
 use lfo::lfo_height;
+use marks::MarkKind;
+use marks::Marks;
+use marks::cycles;
+use marks::envelope_marks;
+use marks::fade_marks;
+use marks::no_marks;
+use marks::oscillator_marks;
+use marks::push;
 use noise::noise_height;
 use oscillator::oscillator_height;
 use settings::Envelope;
@@ -19,7 +25,6 @@ use settings::Filter;
 use settings::Lfo;
 use settings::Noise;
 use settings::Oscillator;
-use settings::byte;
 use settings::envelope_from;
 use settings::fade_from;
 use settings::high_pass;
@@ -49,53 +54,6 @@ pub enum Scale {
 pub struct Generator {
     pub shape: Shape,
     pub scale: Scale,
-}
-
-// The segments of an envelope, in their order.
-pub enum Segment {
-    Attack,
-    Decay,
-    Sustain,
-    Release,
-}
-
-// What is at a mark: the start of a segment, a filter's corner, the end of a cycle, a tap, a pulse's falling edge, or an end of that edge's sweep.
-pub enum MarkKind {
-    Segment(Segment),
-    Corner,
-    Cycle,
-    Tap,
-    Width,
-    Sweep,
-}
-
-pub struct Mark {
-    pub at: f32,
-    pub kind: MarkKind,
-}
-
-// The most marks that a shape has.
-pub const MAX_MARKS: usize = 6;
-
-// The first `count` places are marks; the others all hold one mark, which says nothing.
-pub struct Marks {
-    pub places: [Mark; MAX_MARKS],
-    pub count: usize,
-}
-
-// The steps of the arpeggiator that are drawn.
-pub const GATES_DRAWN: usize = 4;
-
-// A gate opens at its start and closes at its end, both in steps.
-pub struct Gate {
-    pub start: f32,
-    pub end: f32,
-}
-
-// The first `count` places are gates: all four, or none.
-pub struct Gates {
-    pub places: [Gate; GATES_DRAWN],
-    pub count: usize,
 }
 
 // The decibels at the top and at the bottom of a filter's picture, and the height of 0 decibels.
@@ -278,113 +236,7 @@ impl Generator {
     }
 }
 
-// ---- marks
-pub fn no_marks() -> Marks
-    ensures { λ r. ⌜ r ≡ noMarks ⌝ }
-{
-    let unused = Mark {
-        at: 0.0,
-        kind: MarkKind::Corner,
-    };
-    Marks {
-        places: [unused; MAX_MARKS],
-        count: 0,
-    }
-}
-
-// One mark more; a full record stays as it is.
-pub fn push(marks: Marks, at: f32, kind: MarkKind) -> Marks
-    ensures { λ r. ⌜ r ≡ pushed marks (markOf at kind) ⌝ }
-{
-    let n = marks.count;
-    if n < MAX_MARKS {
-        let mut more = marks;
-        more.places[n] = Mark { at, kind };
-        more.count = n + 1;
-        return more;
-    }
-    marks
-}
-
-fn envelope_marks(e: Envelope) -> Marks
-    ensures { λ r. ⌜ r ≡ stored (envelopeMarks e) ⌝ }
-{
-    let attack = push(no_marks(), 0.0, MarkKind::Segment(Segment::Attack));
-    let decay = push(attack, e.first, MarkKind::Segment(Segment::Decay));
-    let sustain = push(decay, e.second, MarkKind::Segment(Segment::Sustain));
-    push(sustain, e.third, MarkKind::Segment(Segment::Release))
-}
-
-fn fade_marks(f: Fade) -> Marks
-    ensures { λ r. ⌜ r ≡ stored (fadeMarks f) ⌝ }
-{
-    let attack = push(no_marks(), 0.0, MarkKind::Segment(Segment::Attack));
-    push(attack, f.end, MarkKind::Segment(Segment::Sustain))
-}
-
-// The end of each cycle, as a part of all the turns.
-fn cycles(marks: Marks, turns: f32) -> Marks
-    ensures { λ r. ⌜ r ≡ pushedAll marks (cyclesOf turns) ⌝ }
-{
-    let mut ends = marks;
-    let mut count: u8 = 0;
-    while count < 255 {
-        count += 1;
-        let cycle = count as f32;
-        if cycle > turns {
-            return ends;
-        }
-        ends = push(ends, cycle / turns, MarkKind::Cycle);
-    }
-    ends
-}
-
-// A pulse's width, and the two ends of its sweep where it is swept.
-fn pulse_marks(o: Oscillator) -> Marks
-    ensures { λ r. ⌜ r ≡ stored (pulseMarks o) ⌝ }
-{
-    if o.pulse {
-        let width = push(no_marks(), o.width, MarkKind::Width);
-        if o.sweep > 0.0 {
-            let from = push(width, o.width - o.sweep, MarkKind::Sweep);
-            return push(from, o.width + o.sweep, MarkKind::Sweep);
-        }
-        return width;
-    }
-    no_marks()
-}
-
-fn oscillator_marks(o: Oscillator) -> Marks
-    ensures { λ r. ⌜ r ≡ stored (oscillatorMarks o) ⌝ }
-{
-    cycles(pulse_marks(o), 1.0)
-}
-
-// ---- enums as numbers
-pub fn segment_number(segment: Segment) -> u8
-    ensures { λ r. ⌜ r ≡ segmentNumber segment ⌝ }
-{
-    match segment {
-        Segment::Attack => 0,
-        Segment::Decay => 1,
-        Segment::Sustain => 2,
-        Segment::Release => 3,
-    }
-}
-
-pub fn kind_number(kind: MarkKind) -> u8
-    ensures { λ r. ⌜ r ≡ kindNumber kind ⌝ }
-{
-    match kind {
-        MarkKind::Segment(s) => segment_number(s),
-        MarkKind::Corner => 4,
-        MarkKind::Cycle => 5,
-        MarkKind::Tap => 6,
-        MarkKind::Width => 7,
-        MarkKind::Sweep => 8,
-    }
-}
-
+// ---- a scale as numbers
 pub fn scale_number(scale: Scale) -> u32
     ensures { λ r. ⌜ r ≡ scaleNumber scale ⌝ }
 {
@@ -403,42 +255,5 @@ pub fn scale_value(scale: Scale) -> f32
         Scale::Normalised => 0.0,
         Scale::Turns(turns) => turns,
         Scale::Octaves(octaves) => octaves,
-    }
-}
-
-// ---- gates
-// The gate of a step.
-fn gate_at(step: u8, time: u8) -> Gate
-    ensures { λ r. ⌜ r ≡ gateOf time step ⌝ }
-{
-    let start = step as f32;
-    Gate {
-        start,
-        end: start + byte(time),
-    }
-}
-
-// The gates that the arpeggiator opens, a step each; a gate time of 0 is no note.
-pub fn arpeggiator_gates(time: u8) -> Gates
-    ensures { λ r. ⌜ r ≡ gatesOf time ⌝ }
-{
-    if time == 0 {
-        let closed = Gate {
-            start: 0.0,
-            end: 0.0,
-        };
-        return Gates {
-            places: [closed; GATES_DRAWN],
-            count: 0,
-        };
-    }
-    Gates {
-        places: [
-            gate_at(0, time),
-            gate_at(1, time),
-            gate_at(2, time),
-            gate_at(3, time),
-        ],
-        count: GATES_DRAWN,
     }
 }

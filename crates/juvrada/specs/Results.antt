@@ -6,7 +6,7 @@ use lib.ListN.{getD}
 use lib.Ieee.{Float, nan}
 use Rattle.exact.specs.Binary32.{zero₃₂}
 use Rattle.generator.specs.Generator.{scaleNumber, scaleValue}
-use Rattle.generator.specs.Marks.{stored}
+use Rattle.marks.specs.Marks.{stored}
 use Rattle.taps.specs.declared.Taps.{Taps}
 use Rattle.taps.specs.Formula.{usedOf}
 use Rattle.taps.specs.Marks.{tapMarks}

@@ -7,9 +7,8 @@ use lib.ListN.{length, replicate}
 use lib.Ieee.{Float}
 use Rattle.exact.specs.Binary32.{zero₃₂}
 use Rattle.generator.specs.declared.Shape.{Shape}
-use Rattle.generator.specs.Generator.{scaleOf, restOf, anchoredOf}
-use Rattle.generator.specs.Marks.{marksOf}
-use Rattle.generator.specs.Gates.{gatesOf}
+use Rattle.generator.specs.Generator.{scaleOf, restOf, anchoredOf, marksOf}
+use Rattle.gates.specs.Gates.{gatesOf}
 use Rattle.bars.specs.Bars.{barsOf}
 use Rattle.strip.specs.Strip.{stripOf}
 use Rattle.codes.specs.declared.Code.{Code}

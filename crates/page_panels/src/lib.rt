@@ -115,7 +115,7 @@ pub fn put_panels(out: &mut [u8], at: usize, older: &[u8], block: &[u8]) -> usiz
 pub fn put_arpeggio(out: &mut [u8], at: usize, time: u8) -> usize
     ensures { λ r. ⌜ Puts (now (out .entry)) at (arpeggioText time) (now (out .exit)) r ⌝ }
 {
-    let bars = bars::bars(generator::arpeggiator_gates(time));
+    let bars = bars::bars(gates::arpeggiator_gates(time));
     let mut next = put_place(out, at, 14);
     next = put_title(out, next, 14);
     next = put(

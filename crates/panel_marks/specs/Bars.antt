@@ -4,9 +4,9 @@ use Prim.Native.Nat.{ℕ, zero, suc, min}
 use Rattle.exact.specs.Binary32.{_⊘_, bits}
 use Rattle.text.specs.Text.{ascii}
 use Rattle.text.specs.Spelled.{decimalOf}
-use Rattle.generator.specs.declared.Gate.{Gate}
-use Rattle.generator.specs.declared.Gates.{Gates}
-use Rattle.generator.specs.Gates.{gateAt}
+use Rattle.gates.specs.declared.Gate.{Gate}
+use Rattle.gates.specs.declared.Gates.{Gates}
+use Rattle.gates.specs.Gates.{gateAt}
 use Rattle.panel_marks.specs.Rules.{acrossUnits}
 
 -- A bar from one step's place to another's: a step is a quarter of the frame.

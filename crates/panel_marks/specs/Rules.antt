@@ -6,11 +6,11 @@ use Rattle.text.specs.Text.{ascii}
 use Rattle.text.specs.Spelled.{decimalOf}
 use Rattle.text.specs.Words.{wordOf}
 use Rattle.fixed_point.specs.Nearest.{nearestOf}
-use Rattle.generator.specs.declared.MarkKind.{MarkKind}
-use Rattle.generator.specs.declared.MarkKind.the-variants.{Segment as ASegment, Corner, Cycle, Tap, Width, Sweep}
-use Rattle.generator.specs.declared.Mark.{Mark}
-use Rattle.generator.specs.declared.Marks.{Marks}
-use Rattle.generator.specs.Marks.{kindNumber, markAt}
+use Rattle.marks.specs.declared.MarkKind.{MarkKind}
+use Rattle.marks.specs.declared.MarkKind.the-variants.{Segment as ASegment, Corner, Cycle, Tap, Width, Sweep}
+use Rattle.marks.specs.declared.Mark.{Mark}
+use Rattle.marks.specs.declared.Marks.{Marks}
+use Rattle.marks.specs.Marks.{kindNumber, markAt}
 
 -- A position across the frame, in hundredths of a millimetre.
 abbrev pub acrossUnits : Float → ℕ

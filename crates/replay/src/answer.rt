@@ -2,13 +2,16 @@
 use curve::Height;
 use float_bits::flag;
 use float_bits::word_of;
+use gates::GATES_DRAWN;
+use gates::arpeggiator_gates;
 use generator::Generator;
-use generator::Marks;
 use generator::Scale;
 use generator::Shape;
-use generator::kind_number;
 use generator::scale_number;
 use generator::scale_value;
+use marks::MAX_MARKS;
+use marks::Marks;
+use marks::kind_number;
 use settings::Envelope;
 use settings::Filter;
 use settings::Lfo;
@@ -135,7 +138,7 @@ pub fn mark_count(marks: Marks) -> Answer {
 
 pub fn mark_at(marks: Marks, i: u32) -> Answer {
     let n = i as usize;
-    if n < marks.count && n < generator::MAX_MARKS {
+    if n < marks.count && n < MAX_MARKS {
         return of_float(marks.places[n].at);
     }
     Answer::Nothing
@@ -143,7 +146,7 @@ pub fn mark_at(marks: Marks, i: u32) -> Answer {
 
 pub fn mark_kind(marks: Marks, i: u32) -> Answer {
     let n = i as usize;
-    if n < marks.count && n < generator::MAX_MARKS {
+    if n < marks.count && n < MAX_MARKS {
         let mark = marks.places[n];
         let kind = mark.kind;
         return Answer::Word(kind_number(kind) as u32);
@@ -162,22 +165,22 @@ pub fn scale(scale: Scale, i: u32) -> Answer {
 
 // ---- gates
 pub fn gate_count(time: u8) -> Answer {
-    Answer::Word((generator::arpeggiator_gates(time).count % 256) as u32)
+    Answer::Word((arpeggiator_gates(time).count % 256) as u32)
 }
 
 pub fn gate_start(time: u8, i: u32) -> Answer {
-    let gates = generator::arpeggiator_gates(time);
+    let gates = arpeggiator_gates(time);
     let n = i as usize;
-    if n < gates.count && n < generator::GATES_DRAWN {
+    if n < gates.count && n < GATES_DRAWN {
         return of_float(gates.places[n].start);
     }
     Answer::Nothing
 }
 
 pub fn gate_end(time: u8, i: u32) -> Answer {
-    let gates = generator::arpeggiator_gates(time);
+    let gates = arpeggiator_gates(time);
     let n = i as usize;
-    if n < gates.count && n < generator::GATES_DRAWN {
+    if n < gates.count && n < GATES_DRAWN {
         return of_float(gates.places[n].end);
     }
     Answer::Nothing

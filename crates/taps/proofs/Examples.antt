@@ -1,21 +1,19 @@
 -- IMPULSE TRAINS HELD AGAINST THE RUST. Every number of a row was printed by the unchanged generator.rs (deepmind-midi, commit a25f50498d), built with rustc 1.95.0. A NaN is
 -- written 0x7fc0_0000 in both. Left out for the sign of a zero: a maximum of two zeros of which one is -0 (Rust gives either of the two, we give +0). Assumes nothing.
-use mathlib.Core.Bool.{Bool, true, false, _&&_}
+use mathlib.Core.Bool.{Bool}
 use mathlib.Core.List.{List, [], _∷_, map}
 use Prim.Native.Nat.{ℕ, zero, suc, _<_}
 use native.Mathlib.Omega.{arith}
 use lib.Dec.{T, eqb}
-use lib.ListN.{take}
 use lib.Ieee.{Float, binary32, ofBits, toBits, fits, isNan, lt, le, eq, add, sub, mul, div, neg}
 use lib.Ieee.Scale.{finite}
 use Rattle.exact.specs.Binary32.{bits}
 use Rattle.math.specs.Formulas.{absOf, maxOf, clampOf}
-use Rattle.lists.proofs.Rows.{allPass}
+use Rattle.lists.proofs.Rows.{allPass, allMatch}
 use Rattle.curve.specs.Curve.{positionOf, drawnOf}
 use Rattle.curve.proofs.Positions.{Level}
-use Rattle.generator.specs.declared.Mark.{Mark}
-use Rattle.generator.specs.declared.Marks.{Marks}
-use Rattle.generator.specs.Marks.{kindNumber, countOf, stored}
+use Rattle.marks.specs.Marks.{countOf, stored}
+use Rattle.marks.proofs.Examples.{isMark, hasMarks}
 use Rattle.lists.specs.Padded.{padded}
 use Rattle.taps.specs.declared.Taps.{Taps}
 use Rattle.taps.specs.Formula.{usedOf, atOf, tallOf, tapHeightOf, tapsLevelOf, tapsHeightOf}
@@ -96,15 +94,9 @@ heights-agree : T (allPass gives heightRows)
 unfolding allPass gives heightRows plain noNumbers together outside taps floats toBits ofBits isNan lt eq neg add sub mul div absOf maxOf clampOf positionOf drawnOf tapHeightOf tapsLevelOf tapsHeightOf
 heights-agree = tt
 
--- ---- marks: the bits of their positions, each of the kind Tap
-same : List ℕ → List Mark → Bool
-same [] [] = true
-same [] (k ∷ ks) = false
-same (n ∷ ns) [] = false
-same (n ∷ ns) (k ∷ ks) = eqb (kindNumber (k .kind)) 6 && eqb (toBits binary32 (k .at)) n && same ns ks
-
-marks : Taps → Marks
-marks ts = stored (tapMarks ts (usedOf ts))
+-- ---- marks: the bits of their positions, each of the kind Tap, which has the number 6
+marked : Taps × List ℕ → Bool
+marked r = hasMarks (map (λ (n : ℕ). (6, n)) (r .1)) (stored (tapMarks (r .0) (usedOf (r .0))))
 
 markRows : List (Taps × List ℕ)
 markRows =
@@ -112,9 +104,6 @@ markRows =
     ∷ (plain 5, 0x3dcc_cccd ∷ 0x3f00_0000 ∷ 0x3f02_8f5c ∷ 0x3f66_6666 ∷ []) ∷ (plain 0, [])
     ∷ (noNumbers, 0x7fc0_0000 ∷ 0x0000_0000 ∷ 0x7f80_0000 ∷ 0x3f80_0000 ∷ []) ∷ (outside, 0xbc23_d70a ∷ 0x3f81_47ae ∷ 0x3f00_0000 ∷ 0x3e99_999a ∷ []) ∷ []
 
-marked : Taps × List ℕ → Bool
-marked r = same (r .1) (take (marks (r .0) .count) (marks (r .0) .places))
-
 marks-agree : T (allPass marked markRows)
-unfolding allPass marked markRows same marks plain noNumbers outside taps floats toBits ofBits lt padded countOf stored tapMarks
+unfolding allPass allMatch marked hasMarks isMark markRows plain noNumbers outside taps floats toBits ofBits lt padded countOf stored tapMarks
 marks-agree = tt

@@ -1,9 +1,9 @@
 -- THE MARKS OF AN IMPULSE TRAIN: docs/SPECIFICATION.md, "Marks, rest, scale, anchor, gates". Definitions only.
 use mathlib.Core.List.{List, [], _∷_, _++_}
 use Prim.Native.Nat.{ℕ, zero, suc}
-use Rattle.generator.specs.declared.MarkKind.the-variants.{Tap}
-use Rattle.generator.specs.declared.Mark.{Mark}
-use Rattle.generator.specs.Marks.{markOf}
+use Rattle.marks.specs.declared.MarkKind.the-variants.{Tap}
+use Rattle.marks.specs.declared.Mark.{Mark}
+use Rattle.marks.specs.Marks.{markOf}
 use Rattle.taps.specs.declared.Taps.{Taps}
 use Rattle.taps.specs.Formula.{atOf}
 

@@ -2,18 +2,18 @@
 ghost use mathlib.Core.Path.{_≡_};
 ghost use mathlib.Core.Bool.{true};
 ghost use Rattle.exact.specs.Binary32.{zero₃₂};
-ghost use Rattle.generator.specs.Marks.{stored};
+ghost use Rattle.marks.specs.Marks.{stored};
 ghost use Rattle.taps.specs.Formula.{usedOf, tapHeightOf, tapsLevelOf, tapsHeightOf};
 ghost use Rattle.taps.specs.Marks.{tapMarks};
 use curve::Height;
 use curve::drawn;
 use curve::position;
-use generator::MarkKind;
-use generator::Marks;
 use generator::Scale;
-use generator::no_marks;
-use generator::push;
 use lists::at_most;
+use marks::MarkKind;
+use marks::Marks;
+use marks::no_marks;
+use marks::push;
 use math::abs;
 use math::max;
 

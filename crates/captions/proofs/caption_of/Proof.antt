@@ -1,5 +1,5 @@
 -- `caption_of` is `captionOf` an envelope's marks. Assumes nothing.
-use Rattle.generator.specs.Marks.{envelopeMarks}
+use Rattle.marks.specs.Marks.{envelopeMarks}
 use Rattle.captions.proofs.Segments.{caption-first, caption-later}
 use borrow.Author.Needs.{needs}
 use Rattle.captions.proofs.caption_of.Statement.{statement}

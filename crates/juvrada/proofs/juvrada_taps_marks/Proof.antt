@@ -1,7 +1,7 @@
 -- `juvrada_taps_marks` writes the marks of the taps. Assumes nothing.
 use mathlib.Core.Path.{_≡_}
-use Rattle.generator.specs.declared.Marks.{Marks}
-use Rattle.generator.specs.Marks.{stored}
+use Rattle.marks.specs.declared.Marks.{Marks}
+use Rattle.marks.specs.Marks.{stored}
 use Rattle.taps.specs.declared.Taps.{Taps}
 use Rattle.taps.specs.Formula.{usedOf}
 use Rattle.taps.specs.Marks.{tapMarks}

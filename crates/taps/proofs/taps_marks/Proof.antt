@@ -3,8 +3,8 @@ use Prim.Native.Nat.{ℕ, _-_, _≤_}
 use mathlib.Core.Path.{_≡_, ap, _∙_}
 use borrow.Author.Needs.{needs}
 use native.Mathlib.Numerals.{add-one}
-use Rattle.generator.specs.Marks.{noMarks, stored}
-use Rattle.generator.proofs.Stored.{push-more}
+use Rattle.marks.specs.Marks.{noMarks, stored}
+use Rattle.marks.proofs.Stored.{push-more}
 use Rattle.taps.specs.Formula.{usedOf}
 use Rattle.taps.specs.Marks.{tapMarks}
 use Rattle.taps.proofs.UsedTaps.{all-used}

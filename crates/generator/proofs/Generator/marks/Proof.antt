@@ -1,8 +1,9 @@
 -- `marks` is `marksOf` of the shape. Assumes nothing.
 use mathlib.Core.List.{[]}
 use borrow.Author.Needs.{needs}
-use Rattle.generator.specs.Marks.{marksOf, markList, noMarks}
-use Rattle.generator.proofs.Stored.{push-more, push-list}
+use Rattle.marks.specs.Marks.{noMarks}
+use Rattle.marks.proofs.Stored.{push-more, push-list}
+use Rattle.generator.specs.Generator.{marksOf, markList}
 use Rattle.generator.proofs.Generator.marks.Statement.{statement}
 use Rattle.generator.proofs.Generator.marks.Tie as tie
 

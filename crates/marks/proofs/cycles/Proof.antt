@@ -2,11 +2,11 @@
 use Prim.Native.Nat.{_+_, _-_, _≤_}
 use mathlib.Core.Path.{_≡_, refl, ap, _∙_}
 use borrow.Author.Needs.{needs}
-use Rattle.generator.specs.Marks.{cyclesOf, cyclesFrom, pushedAll}
-use Rattle.generator.specs.declared.Marks.{Marks}
-use Rattle.generator.proofs.Stored.{cycles-end, cycles-next, cycles-done}
-use Rattle.generator.proofs.cycles.Statement.{statement}
-use Rattle.generator.proofs.cycles.Tie as tie
+use Rattle.marks.specs.Marks.{cyclesOf, cyclesFrom, pushedAll}
+use Rattle.marks.specs.declared.Marks.{Marks}
+use Rattle.marks.proofs.Stored.{cycles-end, cycles-next, cycles-done}
+use Rattle.marks.proofs.cycles.Statement.{statement}
+use Rattle.marks.proofs.cycles.Tie as tie
 
 abbrev Inv-loop : tie.InvT-loop
 Inv-loop turns ends₀ count₀ ends count = (count ≤ 255) × (pushedAll ends (cyclesFrom turns (255 - count) (count + 1)) ≡ pushedAll ends₀ (cyclesOf turns))

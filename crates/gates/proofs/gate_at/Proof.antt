@@ -1,8 +1,8 @@
 -- `gate_at` is `gateOf`. Assumes nothing.
 use borrow.Author.Needs.{needs}
-use Rattle.generator.specs.Gates.{gateOf}
-use Rattle.generator.proofs.gate_at.Statement.{statement}
-use Rattle.generator.proofs.gate_at.Tie as tie
+use Rattle.gates.specs.Gates.{gateOf}
+use Rattle.gates.proofs.gate_at.Statement.{statement}
+use Rattle.gates.proofs.gate_at.Tie as tie
 
 pub gate-at-spec : {M : Type 1} → statement M
 unfolding gateOf

@@ -1,9 +1,9 @@
 -- `push` is `pushed`. Assumes nothing.
 use borrow.Author.Needs.{needs}
 use borrow.Author.Tests.{lt-ltb, le-ltb}
-use Rattle.generator.specs.Marks.{pushed}
-use Rattle.generator.proofs.push.Statement.{statement}
-use Rattle.generator.proofs.push.Tie as tie
+use Rattle.marks.specs.Marks.{pushed}
+use Rattle.marks.proofs.push.Statement.{statement}
+use Rattle.marks.proofs.push.Tie as tie
 
 pub push-spec : {M : Type 1} → statement M
 unfolding pushed

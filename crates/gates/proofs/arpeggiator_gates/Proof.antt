@@ -1,9 +1,9 @@
 -- `arpeggiator_gates` is `gatesOf`. Assumes nothing.
 use borrow.Author.Needs.{needs}
 use borrow.Author.Tests.{eq-eqb, ne-eqb}
-use Rattle.generator.specs.Gates.{gatesOf}
-use Rattle.generator.proofs.arpeggiator_gates.Statement.{statement}
-use Rattle.generator.proofs.arpeggiator_gates.Tie as tie
+use Rattle.gates.specs.Gates.{gatesOf}
+use Rattle.gates.proofs.arpeggiator_gates.Statement.{statement}
+use Rattle.gates.proofs.arpeggiator_gates.Tie as tie
 
 returns : tie.Need-returns
 unfolding gatesOf

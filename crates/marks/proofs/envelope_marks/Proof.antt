@@ -1,9 +1,9 @@
 -- `envelope_marks` stores `envelopeMarks`. Assumes nothing.
 use borrow.Author.Needs.{needs}
-use Rattle.generator.specs.Marks.{envelopeMarks, pushed, noMarks, stored, countOf}
+use Rattle.marks.specs.Marks.{envelopeMarks, pushed, noMarks, stored, countOf}
 use Rattle.lists.specs.Padded.{padded}
-use Rattle.generator.proofs.envelope_marks.Statement.{statement}
-use Rattle.generator.proofs.envelope_marks.Tie as tie
+use Rattle.marks.proofs.envelope_marks.Statement.{statement}
+use Rattle.marks.proofs.envelope_marks.Tie as tie
 
 returns : tie.Need-returns
 unfolding envelopeMarks pushed noMarks stored padded countOf

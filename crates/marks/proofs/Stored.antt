@@ -7,9 +7,9 @@ use native.Mathlib.Numerals.{add-one}
 use native.Mathlib.Omega.{arith}
 use lib.IntN.{pos}
 use lib.Ieee.{Float, binary32, ofInt, lt}
-use Rattle.generator.specs.declared.Mark.{Mark}
-use Rattle.generator.specs.declared.Marks.{Marks}
-use Rattle.generator.specs.Marks.{countOf, maxMarks, stored, pushed, pushedAll, cycleMark, cyclesFrom}
+use Rattle.marks.specs.declared.Mark.{Mark}
+use Rattle.marks.specs.declared.Marks.{Marks}
+use Rattle.marks.specs.Marks.{countOf, maxMarks, stored, pushed, pushedAll, cycleMark, cyclesFrom}
 use Rattle.lists.specs.Padded.{padded}
 
 pub pushed-stored : (ks : List Mark) (k : Mark) → pushed (stored ks) k ≡ stored (ks ++ (k ∷ []))

@@ -8,8 +8,8 @@ use lib.ListN.{getD}
 use lib.Ieee.{binary32, ofInt, nan}
 use Rattle.exact.specs.Binary32.{_⊕_, zero₃₂}
 use Rattle.settings.specs.Settings.{byteOf}
-use Rattle.generator.specs.declared.Gate.{Gate}
-use Rattle.generator.specs.declared.Gates.{Gates}
+use Rattle.gates.specs.declared.Gate.{Gate}
+use Rattle.gates.specs.declared.Gates.{Gates}
 
 -- The gate of step s: open from s on, for b / 255 of a step.
 unfoldable pub gateOf : ℕ → ℕ → Gate

@@ -1,9 +1,9 @@
 -- `fade_marks` stores `fadeMarks`. Assumes nothing.
 use borrow.Author.Needs.{needs}
-use Rattle.generator.specs.Marks.{fadeMarks, pushed, noMarks, stored, countOf}
+use Rattle.marks.specs.Marks.{fadeMarks, pushed, noMarks, stored, countOf}
 use Rattle.lists.specs.Padded.{padded}
-use Rattle.generator.proofs.fade_marks.Statement.{statement}
-use Rattle.generator.proofs.fade_marks.Tie as tie
+use Rattle.marks.proofs.fade_marks.Statement.{statement}
+use Rattle.marks.proofs.fade_marks.Tie as tie
 
 pub fade-marks-spec : {M : Type 1} → statement M
 unfolding fadeMarks pushed noMarks stored padded countOf

@@ -1,9 +1,9 @@
 -- `oscillator_marks` stores `oscillatorMarks`. Assumes nothing.
 use borrow.Author.Needs.{needs}
-use Rattle.generator.specs.Marks.{oscillatorMarks, pulseMarks}
-use Rattle.generator.proofs.Stored.{push-list}
-use Rattle.generator.proofs.oscillator_marks.Statement.{statement}
-use Rattle.generator.proofs.oscillator_marks.Tie as tie
+use Rattle.marks.specs.Marks.{oscillatorMarks, pulseMarks}
+use Rattle.marks.proofs.Stored.{push-list}
+use Rattle.marks.proofs.oscillator_marks.Statement.{statement}
+use Rattle.marks.proofs.oscillator_marks.Tie as tie
 
 pub oscillator-marks-spec : {M : Type 1} → statement M
 unfolding oscillatorMarks

@@ -1,4 +1,4 @@
--- THE MARKS OF EACH SHAPE: docs/SPECIFICATION.md, "Marks, rest, scale, anchor, gates". A shape's marks are a list; at most six of it are stored. Definitions only.
+-- THE MARKS OF EACH FAMILY: docs/SPECIFICATION.md, "Marks, rest, scale, anchor, gates". A family's marks are a list; at most six of it are stored. Definitions only.
 use mathlib.Core.Bool.{cond}
 use mathlib.Core.List.{List, [], _∷_, _++_}
 use Prim.Native.Nat.{ℕ, zero, suc, _+_}
@@ -7,18 +7,16 @@ use lib.IntN.{pos}
 use lib.ListN.{set, getD}
 use lib.Ieee.{Float, nan, binary32, ofInt, lt}
 use Rattle.lists.specs.Padded.{padded}
-use Rattle.exact.specs.Binary32.{_⊕_, _⊖_, _⊘_, zero₃₂, half₃₂, one₃₂}
+use Rattle.exact.specs.Binary32.{_⊕_, _⊖_, _⊘_, zero₃₂, one₃₂}
 use Rattle.settings.specs.declared.Envelope.{Envelope}
 use Rattle.settings.specs.declared.Fade.{Fade}
 use Rattle.settings.specs.declared.Oscillator.{Oscillator}
-use Rattle.generator.specs.declared.Shape.{Shape}
-use Rattle.generator.specs.declared.Shape.the-variants.{Envelope as AnEnvelope, Fade as AFade, Lfo as AnLfo, Filter as AFilter, Oscillator as AnOscillator, Noise as ANoise}
-use Rattle.generator.specs.declared.Segment.{Segment}
-use Rattle.generator.specs.declared.Segment.the-variants.{Attack, Decay, Sustain, Release}
-use Rattle.generator.specs.declared.MarkKind.{MarkKind}
-use Rattle.generator.specs.declared.MarkKind.the-variants.{Segment as ASegment, Corner, Cycle, Tap, Width, Sweep}
-use Rattle.generator.specs.declared.Mark.{Mark}
-use Rattle.generator.specs.declared.Marks.{Marks}
+use Rattle.marks.specs.declared.Segment.{Segment}
+use Rattle.marks.specs.declared.Segment.the-variants.{Attack, Decay, Sustain, Release}
+use Rattle.marks.specs.declared.MarkKind.{MarkKind}
+use Rattle.marks.specs.declared.MarkKind.the-variants.{Segment as ASegment, Corner, Cycle, Tap, Width, Sweep}
+use Rattle.marks.specs.declared.Mark.{Mark}
+use Rattle.marks.specs.declared.Marks.{Marks}
 
 -- ---- the numbers of the segments and of the kinds of marks
 abbrev pub segmentNumber : Segment → ℕ
@@ -74,7 +72,7 @@ pushedAll m (k ∷ ks) = pushedAll (pushed m k) ks
 abbrev pub markAt : Marks → ℕ → Mark
 markAt marks i = getD (marks .places) i (markOf nan (ASegment Attack))
 
--- ---- the marks of each shape
+-- ---- the marks of each family
 -- The start of each segment.
 unfoldable pub envelopeMarks : Envelope → List Mark
 envelopeMarks e = markOf zero₃₂ (ASegment Attack) ∷ markOf (e .first) (ASegment Decay) ∷ markOf (e .second) (ASegment Sustain) ∷ markOf (e .third) (ASegment Release) ∷ []
@@ -107,16 +105,3 @@ pulseMarks o = cond (o .pulse) (markOf (o .width) Width ∷ sweepMarks (o .width
 -- The pulse's, then the end of the one cycle.
 unfoldable pub oscillatorMarks : Oscillator → List Mark
 oscillatorMarks o = pulseMarks o ++ cyclesOf one₃₂
-
--- All the marks of a shape, in their order.
-unfoldable pub markList : Shape → List Mark
-markList (AnEnvelope e) = envelopeMarks e
-markList (AFade f) = fadeMarks f
-markList (AnLfo l) = cyclesOf (l .turns)
-markList (AFilter f) = markOf half₃₂ Corner ∷ []
-markList (AnOscillator o) = oscillatorMarks o
-markList (ANoise n) = []
-
--- What is stored of them.
-unfoldable pub marksOf : Shape → Marks
-marksOf s = stored (markList s)

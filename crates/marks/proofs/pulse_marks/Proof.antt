@@ -1,10 +1,10 @@
 -- `pulse_marks` stores `pulseMarks`. Assumes nothing.
 use mathlib.Core.List.{[], _∷_}
 use borrow.Author.Needs.{needs}
-use Rattle.generator.specs.Marks.{pulseMarks, sweepMarks, noMarks}
-use Rattle.generator.proofs.Stored.{push-more}
-use Rattle.generator.proofs.pulse_marks.Statement.{statement}
-use Rattle.generator.proofs.pulse_marks.Tie as tie
+use Rattle.marks.specs.Marks.{pulseMarks, sweepMarks, noMarks}
+use Rattle.marks.proofs.Stored.{push-more}
+use Rattle.marks.proofs.pulse_marks.Statement.{statement}
+use Rattle.marks.proofs.pulse_marks.Tie as tie
 
 returns : tie.Need-returns
 unfolding pulseMarks sweepMarks noMarks

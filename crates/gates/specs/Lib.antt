@@ -1,0 +1,2 @@
+-- The arpeggiator's gates.
+pub mod Gates

@@ -1,0 +1,2 @@
+-- Marks, and how they are stored.
+pub mod Marks
