@@ -9,7 +9,7 @@ use Rattle.exact.specs.Value.{value}
 use Rattle.lists.proofs.Rows.{allPass}
 use Rattle.math.specs.Formulas.{minOf, clampOf, floorOf, fractOf}
 use Rattle.curve.specs.Curve.{positionOf, drawnOf}
-use Rattle.settings.specs.Settings.{byteOf, lfoShapeOf, turnsOf, lfoOf}
+use Rattle.settings.specs.Settings.{byteOf, lfoShapeOf, lfoOf}
 use Rattle.lfo_shapes.specs.Formula.{wrapOf, squareOf, samples, sampleOf, indexOf, sampledOf, shapeAtOf}
 use Rattle.lfo.specs.Formula.{stepOf, placeOf, limitOf, movedOf, levelAfter, cutAfter, fullFrom, fullSteps, walkedOf, lfoHeightOf}
 

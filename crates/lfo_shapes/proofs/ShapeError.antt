@@ -7,25 +7,27 @@ use lib.IntN.{pos, negsuc}
 use lib.Pow.{pow-pos}
 use lib.Signed.{leZ-yes}
 use lib.Dec.{T, lit<, lit≤}
-use lib.Ieee.{Float, binary32, fits}
+use lib.Ieee.{Float, binary32, ofBits, fits}
 use lib.Ieee.Fits.{add-fits, sub-fits}
 use Rattle.exact.specs.Fraction.{Fraction, ratio, negℚ, clampUnitℚ, _+ℚ_, _-ℚ_, _≤ℚ_}
 use Rattle.exact.specs.Value.{value, Within}
-use Rattle.exact.specs.Binary32.{_⊖_, _⊗_, half₃₂, one₃₂}
+use Rattle.exact.specs.Binary32.{_⊗_, half₃₂}
 use Rattle.exact.proofs.Parts.{num⁺, num⁻}
 use Rattle.exact.proofs.Order.{≤ℚ-trans, parts-≤ℚ, sum-raise-left}
 use Rattle.exact.proofs.Inequality.{minus-at-most}
-use Rattle.exact.proofs.Analyser.{Approximates, Lower, Upper}
-use Rattle.exact.proofs.Inputs.{relax, result}
+use Rattle.exact.proofs.Analyser.{Expr, var, constant, plus, times, Approximates, Lower, Upper, plain, evalFloat, evalExact, analyse}
+use Rattle.exact.proofs.Soundness.{plainly}
+use Rattle.exact.proofs.Inputs.{one, one-input, covers, concludes, concluded, relax, result}
 use Rattle.curve.specs.Curve.{positionOf, drawnOf, Drawn}
 use Rattle.curve.proofs.Clamped.{drawn-near}
-use Rattle.math.specs.Formulas.{fractOf, sinTurnsOf}
+use Rattle.math.specs.Formulas.{sinTurnsOf}
+use Rattle.math.specs.Series.{sinTurnsℚ}
 use Rattle.math.proofs.Phase.{Phase}
 use Rattle.math.proofs.SineEnclosure.{sineBound, sine-enclosed}
 use Rattle.settings.specs.declared.LfoShape.{LfoShape}
 use Rattle.settings.specs.declared.LfoShape.the-variants.{Sine, Triangle, Square, RampUp, RampDown, SampleAndHold, SampleAndGlide}
 use Rattle.settings.specs.Settings.{turnsOf}
-use Rattle.lfo_shapes.specs.Formula.{wrapOf, sampledOf, sineOf, rampUpOf, rampDownOf, glideOf, shapeAtOf}
+use Rattle.lfo_shapes.specs.Formula.{sineOf, rampUpOf, rampDownOf, glideOf, shapeAtOf}
 use Rattle.lfo_shapes.specs.Exact.{sineℚ, rampDownℚ, glideℚ, shapeℚ}
 use Rattle.lfo_shapes.proofs.Wrapped.{wrap-fits}
 use Rattle.lfo_shapes.proofs.Bounded.{shapeBound, blendBound, blend-covers, triangle-fits, square-fits, sampled-fits, triangle-bounded, square-bounded, ramp-up-bounded, ramp-down-bounded, hold-bounded, glide-bounded}
@@ -41,10 +43,21 @@ Reached RampDown p = Unit {0}
 Reached SampleAndHold p = Unit {0}
 Reached SampleAndGlide p = value p ≤ℚ ratio 16777216 1
 
--- THE BOUND OF A SHAPE: its exact level is at most 27 * 2 ^ -24 beyond 0 and 1, and the level in binary32 at most 37 * 2 ^ -24 from it
+-- ---- SINE, of what `sin_turns` gives
+wave : Expr
+wave = plus (constant half₃₂) (times (constant half₃₂) (var 0))
+
+wave-ok : T (concludes binary32 (one sineBound) wave shapeBound)
+unfolding concludes analyse covers wave sineBound shapeBound one ofBits
+wave-ok = tt
+
 pub sine-bounded : (p : Float) → T (fits binary32 p) → Phase p → Approximates binary32 (sineOf p) (sineℚ (value p)) shapeBound
-unfolding sineOf shapeBound sineBound
-sine-bounded p f h = sine-enclosed p f h
+unfolding sineOf wave one evalFloat evalExact plain value ofBits
+sine-bounded p f h =
+    let S = sinTurnsℚ (value p) in
+    concluded binary32 (one (sinTurnsOf p)) (one S) (one sineBound) (one-input binary32 (sinTurnsOf p) S sineBound (sine-enclosed p f h)) wave (plainly binary32 (one S) wave tt) shapeBound wave-ok
+
+-- ---- EVERY SHAPE: its exact level is at most 27 * 2 ^ -24 beyond 0 and 1, and the level in binary32 at most 37 * 2 ^ -24 from it
 
 wider : (x : Float) (A : Fraction) → Approximates binary32 x A blendBound → Approximates binary32 x A shapeBound
 wider x A h = relax binary32 x A blendBound shapeBound h blend-covers
@@ -107,13 +120,13 @@ shape-range s p f h r = bounded-range (shapeAtOf s p) (shapeℚ s (value p)) (sh
 -- each level is a float of the format
 pub shape-fits : (s : LfoShape) (p : Float) → T (fits binary32 (shapeAtOf s p))
 unfolding shapeAtOf sineOf rampUpOf rampDownOf glideOf
-shape-fits Sine p = add-fits binary32 half₃₂ (half₃₂ ⊗ sinTurnsOf p)
+shape-fits Sine p = add-fits binary32 _ _
 shape-fits Triangle p = triangle-fits p
 shape-fits Square p = square-fits p
 shape-fits RampUp p = wrap-fits p
-shape-fits RampDown p = sub-fits binary32 one₃₂ (wrapOf p)
+shape-fits RampDown p = sub-fits binary32 _ _
 shape-fits SampleAndHold p = sampled-fits p
-shape-fits SampleAndGlide p = add-fits binary32 (sampledOf (p ⊖ one₃₂)) ((sampledOf p ⊖ sampledOf (p ⊖ one₃₂)) ⊗ fractOf p)
+shape-fits SampleAndGlide p = add-fits binary32 _ _
 
 -- ---- DRAWN, at a position from 0 to 1
 reached : (s : LfoShape) {p : Float} → Spanned p → Reached s p

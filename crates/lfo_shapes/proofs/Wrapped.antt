@@ -5,7 +5,7 @@ use Prim.Native.Nat.{_<_}
 use native.Mathlib.Nat.{not-le-of-lt}
 use lib.Dec.{T, lit<}
 use lib.Signed.{leZ-yes}
-use lib.Ieee.{Float, binary32, ofBits, lt, le, fits}
+use lib.Ieee.{Float, binary32, ofBits, ofInt, sub, lt, le, fits}
 use lib.Ieee.Fits.{cond-fits}
 use lib.Ieee.Scale.{finite}
 use Rattle.exact.specs.Fraction.{Fraction, ratio, ltℚ, _≤ℚ_}
@@ -14,7 +14,7 @@ use Rattle.exact.specs.Binary32.{zero₃₂, half₃₂, one₃₂}
 use Rattle.exact.proofs.Defined.{value-defined, choice-is}
 use Rattle.exact.proofs.Order.{cross, ≤ℚ-parts, ltℚ-parts, equal-refl, le-value}
 use Rattle.exact.proofs.Inequality.{nlt-le, lt-equal}
-use Rattle.math.specs.Formulas.{fractOf}
+use Rattle.math.specs.Formulas.{floorOf, fractOf}
 use Rattle.math.specs.Series.{fractℚ}
 use Rattle.math.proofs.Fold.{Turned, compared}
 use Rattle.math.proofs.Phase.{Phase, phase-finite, fract-fits, fract-turned}
@@ -49,6 +49,15 @@ le-not x y X Y = go (le x y) (ltℚ (value y) (value x)) (le-value x y X Y .0) (
 
 not-above : (x y : Float) {A B : Fraction} → Equal (value x) A → Equal (value y) B → le x y ≡ not (ltℚ B A)
 not-above x y e d = le-not x y (value-defined x .0 (e .left)) (value-defined y .0 (d .left)) ∙ ap not (lt-equal d e)
+
+-- ---- phase 0 is the start of a cycle, and phase 1 the end of one
+wrap-start : wrapOf zero₃₂ ≡ zero₃₂
+unfolding wrapOf fractOf floorOf value lt le ofBits ofInt sub
+wrap-start = refl
+
+wrap-end : wrapOf one₃₂ ≡ one₃₂
+unfolding wrapOf fractOf floorOf value lt le ofBits ofInt sub
+wrap-end = refl
 
 pub wrap-fits : (p : Float) → T (fits binary32 (wrapOf p))
 unfolding wrapOf

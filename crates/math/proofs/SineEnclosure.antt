@@ -1,6 +1,6 @@
--- THE EXACT SINE PASSES 1 BY AT MOST 3.21 MILLIONTHS over a quarter turn, so that the exact height 0.5 + 0.5 sin_turns lies from -27 * 2 ^ -24 to 1 + 27 * 2 ^ -24. Up to 5/32 of a turn, and of
+-- THE EXACT SINE PASSES 1 BY AT MOST 3.21 MILLIONTHS over a quarter turn, and so -1 over a turn. Up to 5/32 of a turn, and of
 -- the terms from order 9 up, intervals say so; the rest is the polynomial of SinePolynomial. Assumes nothing.
-use mathlib.Core.Path.{_≡_, refl, sym, ap, subst, subst₂}
+use mathlib.Core.Path.{_≡_, refl, sym, subst, subst₂}
 use mathlib.Core.Logic.{_⊎_, inl, inr}
 use mathlib.Core.Bool.{Bool, true, false, cond}
 use Prim.Native.Nat.{ℕ, suc, _+_, _-_, _*_, _/_, _^_, _≤_, _<_}
@@ -11,8 +11,8 @@ use lib.Dec.{T, lit<, lit≤}
 use lib.Pow.{pow-pos}
 use lib.Signed.{leZ-yes}
 use lib.Ieee.{Float, binary32, ofBits, fits}
-use Rattle.exact.specs.Fraction.{Fraction, ratio, whole, negℚ, ltℚ, _+ℚ_, _*ℚ_, _≤ℚ_}
-use Rattle.exact.proofs.Parts.{num⁺, num⁻, neg⁺, neg⁻, mul⁺, mul⁻, times⁺, times⁻, sum-parts}
+use Rattle.exact.specs.Fraction.{Fraction, ratio, whole, negℚ, ltℚ, _*ℚ_, _≤ℚ_}
+use Rattle.exact.proofs.Parts.{num⁺, num⁻, neg⁺, neg⁻, mul⁺, mul⁻, times⁺, times⁻}
 use Rattle.exact.proofs.Defined.{choice-is}
 use Rattle.exact.proofs.Order.{≤ℚ-parts, parts-≤ℚ, ≤ℚ-trans, ≤ℚ-total}
 use Rattle.exact.proofs.Bounds.{lower-at, upper-at}
@@ -20,11 +20,11 @@ use Rattle.exact.proofs.Analyser.{Bound, Expr, var, approx, times, Approximates
 use Rattle.exact.proofs.Soundness.{plainly}
 use Rattle.exact.proofs.Inputs.{one, one-input, exact-input, covers, concludes, concluded}
 use Rattle.exact.specs.Value.{value}
-use Rattle.exact.specs.Binary32.{_⊕_, _⊗_, bits, half₃₂}
+use Rattle.exact.specs.Binary32.{bits}
 use Rattle.math.proofs.SeriesExpr.{exactly, nearestTo}
 use Rattle.math.proofs.Fold.{Turned, half-turn, quarter-turn}
 use Rattle.math.proofs.Phase.{Phase, fract-turned}
-use Rattle.math.proofs.SineError.{heightBound, sine-height}
+use Rattle.math.proofs.SineError.{turnsBound, sin-turns-near}
 use Rattle.math.specs.Formulas.{fractOf, halfOf, quarterOf, sinTurnsOf}
 use Rattle.math.specs.Horner.{hornerℚ}
 use Rattle.math.specs.Series.{fractℚ, turn, terms, factorial, sineTerm, sineTerms, halfℚ, quarterℚ, signℚ, sineOfAngleℚ, sineOfQuarterℚ, sineOfCycleℚ, sinTurnsℚ}
@@ -159,27 +159,13 @@ sine-most q Q t = go (≤ℚ-total Q (ratio 5 32))
     go (inl h) = ≤ℚ-trans (sineOfQuarterℚ Q) (ratio 1 1) (ratio 100000321 100000000) (lit< tt) (early-most q Q t h) (leZ-yes tt)
     go (inr h) = late-most (Q .num) (Q .den) (t .is .right) (t .above) (t .below) (late-tail q Q t h)
 
--- ---- THE HEIGHT 1/2 + 1/2 Y, for a Y between ±M / E, in quanta
-half-upper : (U M E h : ℕ) (Y : Fraction) → 0 < E → U * (E + M) ≤ 2 * h * E → Y ≤ℚ ratio M E → Upper U (ratio 1 2 +ℚ ratio 1 2 *ℚ Y) (pos h)
-half-upper U M E h Y O l k =
-    let t = ratio 1 2 *ℚ Y in
-    let s = ratio 1 2 +ℚ t in
-    core (num⁺ Y) (num⁻ Y) (Y .den) (num⁺ t) (num⁻ t) (num⁺ s) (num⁻ s) (times⁺ 1 (Y .num)) (times⁻ 1 (Y .num)) (sum-parts (ratio 1 2) t) (≤ℚ-parts Y (ratio M E) k)
+-- ---- -n / d: g + 1 quanta below 0
+lower-below : (U : ℕ) (A : Fraction) (n d g : ℕ) → 0 < d → n * U ≤ suc g * d → negℚ (ratio n d) ≤ℚ A → Lower U A (negsuc g)
+lower-below U A n d g D l h =
+    le-of-mul-le-mul-right (core (num⁺ A) (num⁻ A) (A .den) (subst₂ (λ (a b : ℕ). a * A .den + num⁻ A * d ≤ num⁺ A * d + b * A .den) (neg⁺ (pos n)) (neg⁻ (pos n)) (≤ℚ-parts (negℚ (ratio n d)) A h))) D
   where
-    core : (P N D X Z S R : ℕ) → X ≡ 1 * P → Z ≡ 1 * N → S + (0 * (2 * D) + Z * 2) ≡ R + (1 * (2 * D) + X * 2) → P * E + 0 * D ≤ M * D + N * E → S * U + 0 * (2 * (2 * D)) ≤ h * (2 * (2 * D)) + R * U
-    core P N D X Z S R x z e k =
-        le-of-mul-le-mul-right (omega (arith, ap (λ (t : ℕ). t * (U * E)) x, ap (λ (t : ℕ). t * (U * E)) z, ap (λ (t : ℕ). t * (U * E)) e, mul-le-mul-right (2 * U) k, mul-le-mul-right (2 * D) l)) O
-
-half-lower : (U M E h : ℕ) (Y : Fraction) → 0 < E → U * M ≤ U * E + 2 * suc h * E → negℚ (ratio M E) ≤ℚ Y → Lower U (ratio 1 2 +ℚ ratio 1 2 *ℚ Y) (negsuc h)
-half-lower U M E h Y O l k =
-    let t = ratio 1 2 *ℚ Y in
-    let s = ratio 1 2 +ℚ t in
-    core (num⁺ Y) (num⁻ Y) (Y .den) (num⁺ t) (num⁻ t) (num⁺ s) (num⁻ s) (times⁺ 1 (Y .num)) (times⁻ 1 (Y .num)) (sum-parts (ratio 1 2) t)
-    (subst₂ (λ (a b : ℕ). a * Y .den + num⁻ Y * E ≤ num⁺ Y * E + b * Y .den) (neg⁺ (pos M)) (neg⁻ (pos M)) (≤ℚ-parts (negℚ (ratio M E)) Y k))
-  where
-    core : (P N D X Z S R : ℕ) → X ≡ 1 * P → Z ≡ 1 * N → S + (0 * (2 * D) + Z * 2) ≡ R + (1 * (2 * D) + X * 2) → 0 * D + N * E ≤ P * E + M * D → 0 * (2 * (2 * D)) + R * U ≤ S * U + suc h * (2 * (2 * D))
-    core P N D X Z S R x z e k =
-        le-of-mul-le-mul-right (omega (arith, ap (λ (t : ℕ). t * (U * E)) x, ap (λ (t : ℕ). t * (U * E)) z, ap (λ (t : ℕ). t * (U * E)) e, mul-le-mul-right (2 * U) k, mul-le-mul-right (2 * D) l)) O
+    core : (P N E : ℕ) → 0 * E + N * d ≤ P * d + n * E → (0 * E + N * U) * d ≤ (P * U + suc g * E) * d
+    core P N E h = omega (arith, mul-le-mul-right E l, mul-le-mul-right U h)
 
 -- ±S for an S from 0 to M / E
 record Sized (Y : Fraction) (M E : ℕ) : Type 0 where
@@ -212,15 +198,18 @@ sized false S M E l h =
     high : (P N D : ℕ) → 0 * D + N * 1 ≤ P * 1 + 0 * D → (0 * P + 1 * N) * E + 0 * (1 * D) ≤ M * (1 * D) + (0 * N + 1 * P) * E
     high P N D h = omega (arith, mul-le-mul-right E h)
 
--- 27 * 2 ^ -24 beyond 0 and 1, and 37 * 2 ^ -24 off
+-- 3.21 millionths beyond 1, and 71 * 2 ^ -24 off
+abbrev beyond : ℕ
+beyond = (100000321 * 2 ^ 149 + 99999999) / 100000000
+
 unfoldable pub sineBound : Bound
-sineBound = record { lo = negsuc (27 * 2 ^ 125 - 1); hi = pos (2 ^ 149 + 27 * 2 ^ 125); err = 37 * 2 ^ 125 }
+sineBound = record { lo = negsuc (beyond - 1); hi = pos beyond; err = 71 * 2 ^ 125 }
 
 -- THE THEOREM, for every phase of a curve
-pub sine-enclosed : (x : Float) → T (fits binary32 x) → Phase x → Approximates binary32 (half₃₂ ⊕ half₃₂ ⊗ sinTurnsOf x) (ratio 1 2 +ℚ ratio 1 2 *ℚ sinTurnsℚ (value x)) sineBound
-unfolding sinTurnsℚ sineOfCycleℚ sineBound heightBound
+pub sine-enclosed : (x : Float) → T (fits binary32 x) → Phase x → Approximates binary32 (sinTurnsOf x) (sinTurnsℚ (value x)) sineBound
+unfolding sinTurnsℚ sineOfCycleℚ sineBound turnsBound
 sine-enclosed x f p =
-    let h = sine-height x f p in
+    let h = sin-turns-near x f p in
     let C = fractℚ (value x) in
     let c = fract-turned x f p in
     let q = quarterOf (halfOf (fractOf x)) in
@@ -232,6 +221,6 @@ sine-enclosed x f p =
     record {
       defined = h .defined;
       near = h .near;
-      lower = half-lower (2 ^ 149) 100000321 100000000 (27 * 2 ^ 125 - 1) (signℚ C *ℚ sineOfQuarterℚ Q) (lit< tt) (lit≤ tt) (z .from);
-      upper = half-upper (2 ^ 149) 100000321 100000000 (2 ^ 149 + 27 * 2 ^ 125) (signℚ C *ℚ sineOfQuarterℚ Q) (lit< tt) (lit≤ tt) (z .to);
+      lower = lower-below (2 ^ 149) (signℚ C *ℚ sineOfQuarterℚ Q) 100000321 100000000 (beyond - 1) (lit< tt) (lit≤ tt) (z .from);
+      upper = upper-at (2 ^ 149) (signℚ C *ℚ sineOfQuarterℚ Q) 100000321 100000000 beyond (lit< tt) (lit≤ tt) (z .to);
     }
