@@ -1,75 +1,72 @@
--- HEIGHTS AND STEPS THAT ARE KNOWN BEFOREHAND: docs/SPECIFICATION.md, "Examples". One table over the formulas: what a formula gives, and the bits that it must have; and one of steps. Assumes
--- nothing.
-use mathlib.Core.Bool.{Bool, false}
+-- HEIGHTS AND STEPS THAT ARE KNOWN BEFOREHAND: docs/SPECIFICATION.md, "Examples". One table: a shape, built from its bytes, a position, and what its height must be there: the
+-- height's bits, with no step, or the steps of a walk. Assumes nothing.
+use mathlib.Core.Bool.{Bool, false, _&&_}
 use mathlib.Core.List.{List, [], _∷_}
 use Prim.Native.Nat.{ℕ}
 use lib.Dec.{T, eqb}
 use lib.Ieee.{Float, binary32, ofBits, toBits, ofInt, toUnsigned, isNan, lt, le, neg, add, sub, mul, div}
 use Rattle.exact.specs.Value.{value}
-use Rattle.exact.specs.Binary32.{_⊗_, zero₃₂, quarter₃₂, half₃₂, one₃₂}
+use Rattle.exact.specs.Binary32.{zero₃₂, quarter₃₂, half₃₂, one₃₂}
 use Rattle.math.specs.Horner.{horner}
 use Rattle.math.specs.Formulas.{clampOf, floorOf, fractOf, exp2Scale, exp2Coefficients, exp2Within, exp2Of}
 use Rattle.lists.proofs.Rows.{allPass}
+use Rattle.curve.specs.declared.Height.{Height}
 use Rattle.curve.specs.Curve.{positionOf, drawnOf}
-use Rattle.settings.specs.declared.LfoShape.{LfoShape}
-use Rattle.settings.specs.declared.LfoShape.the-variants.{Triangle, Square, RampUp, SampleAndHold, SampleAndGlide}
 use Rattle.settings.specs.Settings.{byteOf, totalOf, firstOf, secondOf, thirdOf, slopeOf, sloped, sustainEndOf, bendOf, envelopeOf, lfoShapeOf, turnsOf, lfoOf, fadeOf, depthOf, widthOf, sweepOf, oscillatorOneOf, oscillatorTwoOf}
 use Rattle.envelope.specs.Formula.{divideOf, denominatorOf, bentUnit, bentOf, attackOf, decayOf, sustainOf, releaseOf, envelopeLevelOf, envelopeHeightOf}
 use Rattle.fade.specs.Formula.{fadeLevelOf, fadeHeightOf}
 use Rattle.oscillator.specs.Formula.{sawOf, pulseOf, addedOf, sumOf, wavesOf, oscillatorLevelOf, oscillatorHeightOf}
 use Rattle.lfo_shapes.specs.Formula.{wrapOf, samples, sampleOf, indexOf, sampledOf, triangleOf, squareOf, rampUpOf, glideOf, shapeAtOf}
 use Rattle.lfo.specs.Formula.{stepOf, placeOf, fullFrom, fullSteps, walkedOf, lfoHeightOf}
+use Rattle.generator.specs.declared.Shape.{Shape}
+use Rattle.generator.specs.declared.Shape.the-variants.{Envelope as AnEnvelope, Fade as AFade, Lfo as AnLfo, Oscillator as AnOscillator}
+use Rattle.generator.specs.Heights.{heightOf}
 
--- the height of a shape at slew 0
-unslewed : LfoShape → Float → Float
-unslewed s t = drawnOf (shapeAtOf s (positionOf t ⊗ turnsOf s)) .height
+-- ---- shapes
+-- the LFO of a shape's and a slew's byte
+lfo : ℕ → ℕ → Shape
+lfo shape slew = AnLfo (lfoOf shape slew 0 false)
 
 -- the envelope whose times are 0 and whose sustain is 255, by its sustain's curve
-held : ℕ → Float → Float
-held curve t = envelopeHeightOf (envelopeOf 0 0 255 0 0 0 curve 0) t .height
+held : ℕ → Shape
+held curve = AnEnvelope (envelopeOf 0 0 255 0 0 0 curve 0)
 
 -- oscillator 1 with both waves off
-silent : Float → Float
-silent t = oscillatorHeightOf (oscillatorOneOf 0 0 0 0) t .height
+silent : Shape
+silent = AnOscillator (oscillatorOneOf 0 0 0 0)
 
-rows : List (Float × ℕ)
+-- ---- what is known of a height: its bits, and that it took no step; or its steps
+drawn : ℕ → Height → Bool
+drawn b h = eqb (toBits binary32 (h .height)) b && eqb (h .steps) 0
+
+walked : ℕ → Height → Bool
+walked k h = eqb (h .steps) k
+
+rows : List (Shape × Float × (Height → Bool))
 rows =
-    -- fade byte 0: it ends at 0, and the height is 1
-    (fadeOf 0 .end, 0x0000_0000) ∷ (fadeHeightOf (fadeOf 0) zero₃₂ .height, 0x3f80_0000) ∷ (fadeHeightOf (fadeOf 0) one₃₂ .height, 0x3f80_0000)
-    -- 0, 0.5, 1 and 0
-    ∷ (unslewed Triangle zero₃₂, 0x0000_0000) ∷ (unslewed Triangle quarter₃₂, 0x3f00_0000) ∷ (unslewed Triangle half₃₂, 0x3f80_0000) ∷ (unslewed Triangle one₃₂, 0x0000_0000)
-    -- 0 and 1; 1, 0 and 0
-    ∷ (unslewed RampUp zero₃₂, 0x0000_0000) ∷ (unslewed RampUp one₃₂, 0x3f80_0000)
-    ∷ (unslewed Square zero₃₂, 0x3f80_0000) ∷ (unslewed Square half₃₂, 0x0000_0000) ∷ (unslewed Square one₃₂, 0x0000_0000)
-    -- 0.72, 0.41 and 0.31; 0.86 and 0.63
-    ∷ (unslewed SampleAndHold zero₃₂, 0x3f38_51ec) ∷ (unslewed SampleAndHold half₃₂, 0x3ed1_eb85) ∷ (unslewed SampleAndHold one₃₂, 0x3e9e_b852)
-    ∷ (unslewed SampleAndGlide zero₃₂, 0x3f5c_28f6) ∷ (unslewed SampleAndGlide one₃₂, 0x3f21_47ae)
+    -- fade byte 0: the height is 1
+    (AFade (fadeOf 0), zero₃₂, drawn 0x3f80_0000) ∷ (AFade (fadeOf 0), one₃₂, drawn 0x3f80_0000)
+    -- triangle: 0, 0.5, 1 and 0
+    ∷ (lfo 1 0, zero₃₂, drawn 0x0000_0000) ∷ (lfo 1 0, quarter₃₂, drawn 0x3f00_0000) ∷ (lfo 1 0, half₃₂, drawn 0x3f80_0000) ∷ (lfo 1 0, one₃₂, drawn 0x0000_0000)
+    -- ramp up: 0 and 1; square: 1, 0 and 0
+    ∷ (lfo 3 0, zero₃₂, drawn 0x0000_0000) ∷ (lfo 3 0, one₃₂, drawn 0x3f80_0000)
+    ∷ (lfo 2 0, zero₃₂, drawn 0x3f80_0000) ∷ (lfo 2 0, half₃₂, drawn 0x0000_0000) ∷ (lfo 2 0, one₃₂, drawn 0x0000_0000)
+    -- hold: 0.72, 0.41 and 0.31; glide: 0.86 and 0.63
+    ∷ (lfo 5 0, zero₃₂, drawn 0x3f38_51ec) ∷ (lfo 5 0, half₃₂, drawn 0x3ed1_eb85) ∷ (lfo 5 0, one₃₂, drawn 0x3e9e_b852)
+    ∷ (lfo 6 0, zero₃₂, drawn 0x3f5c_28f6) ∷ (lfo 6 0, one₃₂, drawn 0x3f21_47ae)
+    -- steps, at slew byte 1: of the sine 96 and 192, of hold 96 and 672
+    ∷ (lfo 0 1, zero₃₂, walked 96) ∷ (lfo 0 1, one₃₂, walked 192) ∷ (lfo 5 1, zero₃₂, walked 96) ∷ (lfo 5 1, one₃₂, walked 672)
     -- sustain curve 0: 0.5 halfway, and 0 at the end; 255: 1 at the end
-    ∷ (held 0 half₃₂, 0x3f00_0000) ∷ (held 0 one₃₂, 0x0000_0000) ∷ (held 255 one₃₂, 0x3f80_0000)
-    -- 0.5 throughout; 1 and 0
-    ∷ (silent zero₃₂, 0x3f00_0000) ∷ (silent half₃₂, 0x3f00_0000) ∷ (silent one₃₂, 0x3f00_0000)
-    ∷ (oscillatorHeightOf (oscillatorTwoOf 255) zero₃₂ .height, 0x3f80_0000) ∷ (oscillatorHeightOf (oscillatorTwoOf 255) half₃₂ .height, 0x0000_0000)
+    ∷ (held 0, half₃₂, drawn 0x3f00_0000) ∷ (held 0, one₃₂, drawn 0x0000_0000) ∷ (held 255, one₃₂, drawn 0x3f80_0000)
+    -- both waves off: 0.5 throughout; oscillator 2 at level 255: 1 and 0
+    ∷ (silent, zero₃₂, drawn 0x3f00_0000) ∷ (silent, half₃₂, drawn 0x3f00_0000) ∷ (silent, one₃₂, drawn 0x3f00_0000)
+    ∷ (AnOscillator (oscillatorTwoOf 255), zero₃₂, drawn 0x3f80_0000) ∷ (AnOscillator (oscillatorTwoOf 255), half₃₂, drawn 0x0000_0000)
     ∷ []
 
-known : Float × ℕ → Bool
-known r = eqb (toBits binary32 (r .0)) (r .1)
+known : Shape × Float × (Height → Bool) → Bool
+known r = r .2 (heightOf (r .0) (r .1))
 
-heights-known : T (allPass known rows)
-unfolding allPass known rows unslewed held silent toBits ofBits ofInt toUnsigned isNan lt le neg add sub mul div value horner clampOf floorOf fractOf exp2Scale exp2Coefficients exp2Within exp2Of positionOf drawnOf byteOf totalOf firstOf secondOf thirdOf slopeOf sloped sustainEndOf bendOf envelopeOf fadeOf depthOf widthOf sweepOf oscillatorOneOf oscillatorTwoOf divideOf denominatorOf bentUnit bentOf attackOf decayOf sustainOf releaseOf envelopeLevelOf envelopeHeightOf fadeLevelOf fadeHeightOf sawOf pulseOf addedOf sumOf wavesOf oscillatorLevelOf oscillatorHeightOf wrapOf samples sampleOf indexOf sampledOf triangleOf squareOf rampUpOf glideOf shapeAtOf
+-- and fade byte 0 ends at 0
+heights-known : T (eqb (toBits binary32 (fadeOf 0 .end)) 0 && allPass known rows)
+unfolding allPass known rows lfo held silent drawn walked heightOf toBits ofBits ofInt toUnsigned isNan lt le neg add sub mul div value horner clampOf floorOf fractOf exp2Scale exp2Coefficients exp2Within exp2Of positionOf drawnOf byteOf totalOf firstOf secondOf thirdOf slopeOf sloped sustainEndOf bendOf envelopeOf lfoShapeOf lfoOf fadeOf depthOf widthOf sweepOf oscillatorOneOf oscillatorTwoOf divideOf denominatorOf bentUnit bentOf attackOf decayOf sustainOf releaseOf envelopeLevelOf envelopeHeightOf fadeLevelOf fadeHeightOf sawOf pulseOf addedOf sumOf wavesOf oscillatorLevelOf oscillatorHeightOf wrapOf samples sampleOf indexOf sampledOf triangleOf squareOf rampUpOf glideOf shapeAtOf stepOf placeOf fullFrom fullSteps walkedOf lfoHeightOf
 heights-known = tt
-
--- ---- steps, at slew byte 1: of the LFO of a shape's byte at a position
-stepsAt : ℕ → Float → ℕ
-stepsAt shape t = lfoHeightOf (lfoOf shape 1 0 false) t .steps
-
-stepRows : List (ℕ × ℕ)
-stepRows =
-    -- of Sine 96 and 192, of SampleAndHold 96 and 672
-    (stepsAt 0 zero₃₂, 96) ∷ (stepsAt 0 one₃₂, 192) ∷ (stepsAt 5 zero₃₂, 96) ∷ (stepsAt 5 one₃₂, 672) ∷ []
-
-counted : ℕ × ℕ → Bool
-counted r = eqb (r .0) (r .1)
-
-steps-known : T (allPass counted stepRows)
-unfolding allPass counted stepRows stepsAt lfoHeightOf walkedOf fullSteps fullFrom placeOf stepOf positionOf clampOf lfoOf lfoShapeOf byteOf ofBits ofInt isNan lt le neg add mul div
-steps-known = tt

@@ -1,13 +1,16 @@
 -- IMPULSE TRAINS HELD AGAINST THE RUST. Every number of a row was printed by the unchanged generator.rs (deepmind-midi, commit a25f50498d), built with rustc 1.95.0. A NaN is
 -- written 0x7fc0_0000 in both. Left out for the sign of a zero: a maximum of two zeros of which one is -0 (Rust gives either of the two, we give +0). Assumes nothing.
-use mathlib.Core.Bool.{Bool}
+use mathlib.Core.Path.{_≡_, refl}
+use mathlib.Core.Bool.{Bool, true, false, _&&_}
 use mathlib.Core.List.{List, [], _∷_, map}
 use Prim.Native.Nat.{ℕ, zero, suc, _<_}
 use native.Mathlib.Omega.{arith}
 use lib.Dec.{T, eqb}
 use lib.Ieee.{Float, binary32, ofBits, toBits, fits, isNan, lt, le, eq, add, sub, mul, div, neg}
 use lib.Ieee.Scale.{finite}
-use Rattle.exact.specs.Binary32.{bits}
+use Rattle.exact.specs.Fraction.{ratio}
+use Rattle.exact.specs.Value.{value}
+use Rattle.exact.specs.Binary32.{bits, zero₃₂, half₃₂}
 use Rattle.math.specs.Formulas.{absOf, maxOf, clampOf}
 use Rattle.lists.proofs.Rows.{allPass, allMatch}
 use Rattle.curve.specs.Curve.{positionOf, drawnOf}
@@ -18,6 +21,7 @@ use Rattle.lists.specs.Padded.{padded}
 use Rattle.taps.specs.declared.Taps.{Taps}
 use Rattle.taps.specs.Formula.{usedOf, atOf, tallOf, tapHeightOf, tapsLevelOf, tapsHeightOf}
 use Rattle.taps.specs.Marks.{tapMarks}
+use Rattle.taps.specs.Exact.{tapHeightℚ, tapsLevelℚ, tapsHeightℚ}
 use Rattle.taps.proofs.Ranges.{TapsRange}
 
 floats : List ℕ → List Float
@@ -107,3 +111,12 @@ markRows =
 marks-agree : T (allPass marked markRows)
 unfolding allPass allMatch marked hasMarks isMark markRows plain noNumbers outside taps floats toBits ofBits lt padded countOf stored tapMarks
 marks-agree = tt
+
+-- ---- the exact height: a tap that reaches, and whose height is a NaN, leaves none; taps at no number add nothing
+none-reaching : tapsHeightℚ noNumbers zero₃₂ .den ≡ 0
+unfolding noNumbers taps floats tapsHeightℚ tapsLevelℚ tapHeightℚ value ofBits isNan lt add sub neg absOf clampOf positionOf
+none-reaching = refl
+
+nothing-added : tapsHeightℚ noNumbers half₃₂ ≡ ratio 0 1
+unfolding noNumbers taps floats tapsHeightℚ tapsLevelℚ tapHeightℚ value ofBits isNan lt add sub neg absOf clampOf positionOf
+nothing-added = refl
