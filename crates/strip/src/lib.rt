@@ -28,8 +28,8 @@ pub const MIN_SAMPLES: usize = 2;
 
 pub const MAX_SAMPLES: usize = 4096;
 
-// Fewer samples of an envelope than these are computed one by one.
-const FEW: usize = 16;
+// From how many samples on an envelope's are computed several at once.
+pub const WIDE_SAMPLES: usize = 16;
 
 // Where sample i lies, of those from 0 to `last`.
 pub fn sample_position(i: u16, last: u16) -> f32
@@ -55,7 +55,7 @@ pub fn fits(n: usize) -> bool
 
 // ---- a loop for each family, so that the family is matched once and not at every sample. The caller has tested the length. Each answers the sum of the steps, which only an
 // LFO's heights take.
-fn fill_few_envelope(e: Envelope, out: &mut [f32]) -> u32
+pub fn fill_envelope(e: Envelope, out: &mut [f32]) -> u32
     requires { ⌜ (2 ≤ length (now out)) × (length (now out) ≤ 4096) ⌝ }
     ensures { λ r. ⌜ (r ≡ stepSum (Shape.Envelope e) (length (now (out .entry))) (length (now (out .entry)))) × (now (out .exit) ≡ filledOf (Shape.Envelope e) (length (now (out .entry))) (length (now (out .entry))) (now (out .entry))) ⌝ }
 {
@@ -69,7 +69,8 @@ fn fill_few_envelope(e: Envelope, out: &mut [f32]) -> u32
     0
 }
 
-fn fill_many_envelope(e: Envelope, out: &mut [f32]) -> u32
+// Several samples at once, which takes more preparation than a few of them are worth.
+pub fn fill_wide_envelope(e: Envelope, out: &mut [f32]) -> u32
     requires { ⌜ (2 ≤ length (now out)) × (length (now out) ≤ 4096) ⌝ }
     ensures { λ r. ⌜ (r ≡ stepSum (Shape.Envelope e) (length (now (out .entry))) (length (now (out .entry)))) × (now (out .exit) ≡ filledOf (Shape.Envelope e) (length (now (out .entry))) (length (now (out .entry))) (now (out .entry))) ⌝ }
 {
@@ -81,17 +82,6 @@ fn fill_many_envelope(e: Envelope, out: &mut [f32]) -> u32
         i += 1;
     }
     0
-}
-
-// Several samples of an envelope are computed at once, which takes more preparation than a few of them are worth.
-pub fn fill_envelope(e: Envelope, out: &mut [f32]) -> u32
-    requires { ⌜ (2 ≤ length (now out)) × (length (now out) ≤ 4096) ⌝ }
-    ensures { λ r. ⌜ (r ≡ stepSum (Shape.Envelope e) (length (now (out .entry))) (length (now (out .entry)))) × (now (out .exit) ≡ filledOf (Shape.Envelope e) (length (now (out .entry))) (length (now (out .entry))) (now (out .entry))) ⌝ }
-{
-    if out.len() < FEW {
-        return fill_few_envelope(e, out);
-    }
-    fill_many_envelope(e, out)
 }
 
 pub fn fill_fade(f: Fade, out: &mut [f32]) -> u32

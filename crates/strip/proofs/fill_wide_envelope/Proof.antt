@@ -1,4 +1,4 @@
--- `fill_many_envelope` fills the strip, and answers that no height takes steps. The loop's invariant: the first i samples are written. Assumes nothing.
+-- `fill_wide_envelope` fills the strip, and answers that no height takes steps. The loop's invariant: the first i samples are written. Assumes nothing.
 use mathlib.Core.Path.{_≡_, refl}
 use Prim.Native.Nat.{_-_, _≤_}
 use native.Mathlib.Nat.{le-antisymm}
@@ -11,8 +11,8 @@ use Rattle.generator.specs.Heights.{heightOf}
 use Rattle.lists.specs.Written.{written}
 use Rattle.strip.specs.Strip.{filledOf}
 use Rattle.strip.proofs.Filling.{level-next, stepless, filled-whole}
-use Rattle.strip.proofs.fill_many_envelope.Statement.{statement}
-use Rattle.strip.proofs.fill_many_envelope.Tie as tie
+use Rattle.strip.proofs.fill_wide_envelope.Statement.{statement}
+use Rattle.strip.proofs.fill_wide_envelope.Tie as tie
 
 abbrev Inv-loop : tie.InvT-loop
 Inv-loop e out₀ n last i₀ out i = (length out ≡ length out₀) × (i ≤ n) × (out ≡ filledOf (AnEnvelope e) n i out₀)
@@ -39,8 +39,8 @@ returns c =
     let inv = c .before .loop .inv in
     filled-whole s _ _ _ (le-antisymm (inv .1) (c .loop-test .left)) (stepless s (λ t. refl) _ _) (inv .2)
 
-pub fill-many-envelope-spec : {M : Type 1} → statement M
-fill-many-envelope-spec =
+pub fill-wide-envelope-spec : {M : Type 1} → statement M
+fill-wide-envelope-spec =
     tie.close
     (tie.spec
     Inv-loop
