@@ -18,7 +18,7 @@ use Rattle.generator.proofs.EveryBlock.{envelope-shape-range, lfo-shape-range, 
 use Rattle.codes.specs.declared.Code.{Code}
 use Rattle.codes.specs.declared.Code.the-variants.{Envelope, Lfo, LfoUnipolar, Fade, LowPass, HighPass, Oscillator, Noise}
 use Rattle.codes.specs.declared.OscillatorId.the-variants.{One, Two}
-use Rattle.codes.specs.Bytes.{fadeByte, lfoFirst, envelopeFirst}
+use Rattle.codes.specs.Bytes.{shapePlace, keySyncPlace, slewPlace, fadeByte, lfoFirst, envelopeFirst}
 use Rattle.generator.specs.declared.Shape.the-variants.{Envelope as AnEnvelope}
 use Rattle.block.specs.Shapes.{envelopeAt, lfoAt, oscillatorAt, shapeOf}
 use Rattle.block.specs.Promises.{slewedCode, lfoBound, boundOf, CodePromised}
@@ -31,8 +31,8 @@ envelope-range b h n = envelope-shape-range (b n) (b (n + 1)) (b (n + 2)) (b (n 
 code-range : (c : Code) (b : ℕ → ℕ) → ((n : ℕ) → b n < 256) → ShapeRange (shapeOf c b)
 unfolding shapeOf envelopeAt lfoAt oscillatorAt
 code-range (Envelope id) b h = envelope-range b h (envelopeFirst id)
-code-range (Lfo id) b h = lfo-shape-range (b (lfoFirst id)) (b (lfoFirst id + 4)) (b (lfoFirst id + 1)) false (h (lfoFirst id + 4))
-code-range (LfoUnipolar id) b h = lfo-shape-range (b (lfoFirst id)) (b (lfoFirst id + 4)) (b (lfoFirst id + 1)) true (h (lfoFirst id + 4))
+code-range (Lfo id) b h = lfo-shape-range (b (lfoFirst id + shapePlace)) (b (lfoFirst id + slewPlace)) (b (lfoFirst id + keySyncPlace)) false (h (lfoFirst id + slewPlace))
+code-range (LfoUnipolar id) b h = lfo-shape-range (b (lfoFirst id + shapePlace)) (b (lfoFirst id + slewPlace)) (b (lfoFirst id + keySyncPlace)) true (h (lfoFirst id + slewPlace))
 code-range (Fade id) b h = fade-shape-range (b (fadeByte id)) (h (fadeByte id))
 code-range LowPass b h = low-pass-shape-range (b 41) (b 51) (h 41)
 code-range HighPass b h = high-pass-shape-range
@@ -53,8 +53,8 @@ slew-off (suc n) l = rw (ne-eqb (suc n) 0 (λ e. omega arith)) (is-false (le (by
 code-slewed : (c : Code) (b : ℕ → ℕ) → ((n : ℕ) → b n < 256) → slewed (shapeOf c b) ≡ slewedCode c b
 unfolding slewed shapeOf lfoAt lfoOf slewedCode
 code-slewed (Envelope id) b h = refl
-code-slewed (Lfo id) b h = simp (slew-off (b (lfoFirst id + 4)) (h (lfoFirst id + 4)))
-code-slewed (LfoUnipolar id) b h = simp (slew-off (b (lfoFirst id + 4)) (h (lfoFirst id + 4)))
+code-slewed (Lfo id) b h = simp (slew-off (b (lfoFirst id + slewPlace)) (h (lfoFirst id + slewPlace)))
+code-slewed (LfoUnipolar id) b h = simp (slew-off (b (lfoFirst id + slewPlace)) (h (lfoFirst id + slewPlace)))
 code-slewed (Fade id) b h = refl
 code-slewed LowPass b h = refl
 code-slewed HighPass b h = refl
@@ -64,8 +64,8 @@ code-slewed Noise b h = refl
 code-bound : (c : Code) (b : ℕ → ℕ) → ((n : ℕ) → b n < 256) → shapeBound (shapeOf c b) ≡ boundOf c b
 unfolding shapeBound shapeOf lfoAt lfoOf lfoBound boundOf
 code-bound (Envelope id) b h = refl
-code-bound (Lfo id) b h = simp (slew-off (b (lfoFirst id + 4)) (h (lfoFirst id + 4)))
-code-bound (LfoUnipolar id) b h = simp (slew-off (b (lfoFirst id + 4)) (h (lfoFirst id + 4)))
+code-bound (Lfo id) b h = simp (slew-off (b (lfoFirst id + slewPlace)) (h (lfoFirst id + slewPlace)))
+code-bound (LfoUnipolar id) b h = simp (slew-off (b (lfoFirst id + slewPlace)) (h (lfoFirst id + slewPlace)))
 code-bound (Fade id) b h = refl
 code-bound LowPass b h = refl
 code-bound HighPass b h = refl

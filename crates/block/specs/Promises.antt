@@ -19,15 +19,15 @@ use Rattle.codes.specs.declared.CodeRead.the-variants.{Known}
 use Rattle.block.specs.declared.HeightAnswer.{HeightAnswer}
 use Rattle.block.specs.declared.HeightAnswer.the-variants.{Height as AHeight}
 use Rattle.codes.specs.Codes.{codeOf}
-use Rattle.codes.specs.Bytes.{lfoFirst, byteAt, blockLength}
+use Rattle.codes.specs.Bytes.{lfoFirst, slewPlace, byteAt, blockLength}
 use Rattle.block.specs.Shapes.{shapeOf}
 use Rattle.block.specs.Refusals.{chosenOf, heightAnswer, heightRefusal}
 
--- Whether a code's height is walked: an LFO's, where its slew byte, four past its first, is not 0.
+-- Whether a code's height is walked: an LFO's, where its slew byte is not 0.
 unfoldable pub slewedCode : Code → (ℕ → ℕ) → Bool
 slewedCode (Envelope id) b = false
-slewedCode (Lfo id) b = isOn (b (lfoFirst id + 4))
-slewedCode (LfoUnipolar id) b = isOn (b (lfoFirst id + 4))
+slewedCode (Lfo id) b = isOn (b (lfoFirst id + slewPlace))
+slewedCode (LfoUnipolar id) b = isOn (b (lfoFirst id + slewPlace))
 slewedCode (Fade id) b = false
 slewedCode LowPass b = false
 slewedCode HighPass b = false
@@ -41,8 +41,8 @@ lfoBound slew = cond (eqb slew 0) (ratio 1 262144) (ratio 1 4096)
 -- The bound of a code.
 unfoldable pub boundOf : Code → (ℕ → ℕ) → Fraction
 boundOf (Envelope id) b = ratio 1 131072
-boundOf (Lfo id) b = lfoBound (b (lfoFirst id + 4))
-boundOf (LfoUnipolar id) b = lfoBound (b (lfoFirst id + 4))
+boundOf (Lfo id) b = lfoBound (b (lfoFirst id + slewPlace))
+boundOf (LfoUnipolar id) b = lfoBound (b (lfoFirst id + slewPlace))
 boundOf (Fade id) b = ratio 1 262144
 boundOf LowPass b = ratio 1 262144
 boundOf HighPass b = ratio 1 262144

@@ -12,14 +12,16 @@ use Rattle.codes.specs.declared.OscillatorId.the-variants.{One, Two}
 use Rattle.codes.specs.declared.Code.{Code}
 use Rattle.codes.specs.declared.Code.the-variants.{Envelope as TheEnvelope, Lfo as TheLfo, LfoUnipolar, Fade, LowPass, HighPass, Oscillator as TheOscillator, Noise}
 use Rattle.codes.specs.Bytes.{sourceByte, pulseByte, sawByte, depthByte, oscillatorTwoByte, noiseByte, resonanceByte, poleByte, envelopeFirst, lfoFirst, fadeByte}
+use Rattle.codes.specs.Bytes.{shapePlace, keySyncPlace, slewPlace, decayPlace, sustainPlace, releasePlace, attackCurvePlace, decayCurvePlace, sustainCurvePlace, releaseCurvePlace}
 
--- The envelope of the bytes from n on: four times and levels, then, past one byte, their four curves.
+-- The envelope of the bytes from n on: four times and levels, then their four curves.
 unfoldable pub envelopeAt : (ℕ → ℕ) → ℕ → Envelope
-envelopeAt b n = envelopeOf (b n) (b (n + 1)) (b (n + 2)) (b (n + 3)) (b (n + 5)) (b (n + 6)) (b (n + 7)) (b (n + 8))
+envelopeAt b n =
+    envelopeOf (b n) (b (n + decayPlace)) (b (n + sustainPlace)) (b (n + releasePlace)) (b (n + attackCurvePlace)) (b (n + decayCurvePlace)) (b (n + sustainCurvePlace)) (b (n + releaseCurvePlace))
 
--- The LFO of the bytes from n on: its shape is the first, its slew four further, its key sync the next.
+-- The LFO of the bytes from n on: its shape, its slew, its key sync.
 unfoldable pub lfoAt : (ℕ → ℕ) → ℕ → Bool → Lfo
-lfoAt b n unipolar = lfoOf (b n) (b (n + 4)) (b (n + 1)) unipolar
+lfoAt b n unipolar = lfoOf (b (n + shapePlace)) (b (n + slewPlace)) (b (n + keySyncPlace)) unipolar
 
 unfoldable pub oscillatorAt : (ℕ → ℕ) → OscillatorId → Oscillator
 oscillatorAt b One = oscillatorOneOf (b sourceByte) (b pulseByte) (b sawByte) (b depthByte)

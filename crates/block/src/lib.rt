@@ -7,19 +7,29 @@ ghost use Rattle.codes.specs.Bytes.{byteAt, blockLength, envelopeFirst, lfoFirs
 ghost use Rattle.block.specs.Shapes.{envelopeAt, lfoAt, oscillatorAt, shapeOf};
 ghost use Rattle.block.specs.Refusals.{settledOf, chosenOf};
 ghost use Rattle.block.specs.Promises.{HeightAnswered};
+use codes::ATTACK_CURVE;
 use codes::Code;
 use codes::CodeRead;
+use codes::DECAY;
+use codes::DECAY_CURVE;
 use codes::DEPTH;
 use codes::EnvelopeId;
+use codes::KEY_SYNC;
 use codes::LfoId;
 use codes::NOISE_LEVEL;
 use codes::OSCILLATOR_TWO_LEVEL;
 use codes::OscillatorId;
 use codes::POLE;
 use codes::PULSE;
+use codes::RELEASE;
+use codes::RELEASE_CURVE;
 use codes::RESONANCE;
 use codes::SAW;
+use codes::SHAPE;
+use codes::SLEW;
 use codes::SOURCE;
+use codes::SUSTAIN;
+use codes::SUSTAIN_CURVE;
 use codes::code_read;
 use codes::envelope_first;
 use codes::fade_byte;
@@ -68,7 +78,6 @@ pub enum HeightAnswer {
 pub const BLOCK: usize = 242;
 
 // ---- settings, from the bytes of a whole block
-// The four times and levels from a byte on; one byte between them and their curves is not read.
 pub fn envelope_at(block: &[u8], id: EnvelopeId) -> Envelope
     requires { ⌜ length (now block) ≡ blockLength ⌝ }
     ensures { λ r. ⌜ r ≡ envelopeAt (byteAt (now (block .entry))) (envelopeFirst id) ⌝ }
@@ -76,23 +85,27 @@ pub fn envelope_at(block: &[u8], id: EnvelopeId) -> Envelope
     let from = envelope_first(id);
     envelope_from(
         block[from],
-        block[from + 1],
-        block[from + 2],
-        block[from + 3],
-        block[from + 5],
-        block[from + 6],
-        block[from + 7],
-        block[from + 8],
+        block[from + DECAY],
+        block[from + SUSTAIN],
+        block[from + RELEASE],
+        block[from + ATTACK_CURVE],
+        block[from + DECAY_CURVE],
+        block[from + SUSTAIN_CURVE],
+        block[from + RELEASE_CURVE],
     )
 }
 
-// An LFO's shape, its slew and its key sync.
 pub fn lfo_at(block: &[u8], id: LfoId, unipolar: bool) -> Lfo
     requires { ⌜ length (now block) ≡ blockLength ⌝ }
     ensures { λ r. ⌜ r ≡ lfoAt (byteAt (now (block .entry))) (lfoFirst id) unipolar ⌝ }
 {
     let from = lfo_first(id);
-    lfo_from(block[from], block[from + 4], block[from + 1], unipolar)
+    lfo_from(
+        block[from + SHAPE],
+        block[from + SLEW],
+        block[from + KEY_SYNC],
+        unipolar,
+    )
 }
 
 pub fn fade_at(block: &[u8], id: LfoId) -> Fade

@@ -1,7 +1,7 @@
 -- THE BLOCK, AND THE BYTES THAT EACH CODE READS: docs/SPECIFICATION.md, "The block and its codes". A reading gives the byte of each number. Definitions only.
 use mathlib.Core.Path.{_≡_}
 use mathlib.Core.List.{List, [], _∷_}
-use Prim.Native.Nat.{ℕ, _+_}
+use Prim.Native.Nat.{ℕ, _+_, _*_}
 use lib.ListN.{getD}
 use Rattle.codes.specs.declared.EnvelopeId.{EnvelopeId}
 use Rattle.codes.specs.declared.EnvelopeId.the-variants.{Vca, Vcf, Mod}
@@ -51,29 +51,84 @@ poleByte = 51
 abbrev pub gatesByte : ℕ
 gatesByte = 160
 
--- ---- where a generator's bytes begin
--- An envelope's first byte.
-abbrev pub envelopeFirst : EnvelopeId → ℕ
-envelopeFirst Vca = 53
-envelopeFirst Vcf = 62
-envelopeFirst Mod = 71
+-- ---- the bytes of an LFO
+-- How many each LFO has; those of LFO 1 begin at byte 0, and those of LFO 2 follow.
+abbrev pub lfoSpan : ℕ
+lfoSpan = 7
 
--- The byte of an LFO's shape, the first that its curve reads; and that of its fade.
+abbrev pub lfosEnd : ℕ
+lfosEnd = 2 * lfoSpan
+
+-- The places of its fade time, shape, key sync and slew, counted from its first byte, the rate. No curve reads the others.
+abbrev pub fadePlace : ℕ
+fadePlace = 1
+
+abbrev pub shapePlace : ℕ
+shapePlace = 2
+
+abbrev pub keySyncPlace : ℕ
+keySyncPlace = 3
+
+abbrev pub slewPlace : ℕ
+slewPlace = 6
+
+-- An LFO's first byte, and the byte of its fade time.
 abbrev pub lfoFirst : LfoId → ℕ
-lfoFirst One = 2
-lfoFirst Two = 9
+lfoFirst One = 0
+lfoFirst Two = lfoSpan
 
 abbrev pub fadeByte : LfoId → ℕ
-fadeByte One = 1
-fadeByte Two = 8
+fadeByte id = lfoFirst id + fadePlace
+
+-- ---- the bytes of an envelope
+-- Where those of the first begin, and how many each has.
+abbrev pub envelopesFrom : ℕ
+envelopesFrom = 53
+
+abbrev pub envelopeSpan : ℕ
+envelopeSpan = 9
+
+abbrev pub envelopesEnd : ℕ
+envelopesEnd = envelopesFrom + 3 * envelopeSpan
+
+-- The places of its decay, sustain and release, counted from its first byte, the attack.
+abbrev pub decayPlace : ℕ
+decayPlace = 1
+
+abbrev pub sustainPlace : ℕ
+sustainPlace = 2
+
+abbrev pub releasePlace : ℕ
+releasePlace = 3
+
+-- Of the four curves. The place before them is the trigger mode's, which no curve reads.
+abbrev pub attackCurvePlace : ℕ
+attackCurvePlace = 5
+
+abbrev pub decayCurvePlace : ℕ
+decayCurvePlace = 6
+
+abbrev pub sustainCurvePlace : ℕ
+sustainCurvePlace = 7
+
+abbrev pub releaseCurvePlace : ℕ
+releaseCurvePlace = 8
+
+-- An envelope's first byte.
+abbrev pub envelopeFirst : EnvelopeId → ℕ
+envelopeFirst Vca = envelopesFrom
+envelopeFirst Vcf = envelopesFrom + envelopeSpan
+envelopeFirst Mod = envelopesFrom + 2 * envelopeSpan
 
 -- ---- the bytes of each code
--- Of an envelope: four times and levels, then, past one byte, their four curves. Of an LFO: its shape, its slew, its key sync.
+-- Of an envelope: four times and levels, then their four curves. Of an LFO: its shape, its slew, its key sync.
 abbrev pub envelopeBytes : ℕ → List ℕ
-envelopeBytes n = n ∷ (n + 1) ∷ (n + 2) ∷ (n + 3) ∷ (n + 5) ∷ (n + 6) ∷ (n + 7) ∷ (n + 8) ∷ []
+envelopeBytes n =
+    n ∷ (n + decayPlace) ∷ (n + sustainPlace) ∷ (n + releasePlace) ∷
+    (n + attackCurvePlace) ∷ (n + decayCurvePlace) ∷ (n + sustainCurvePlace) ∷ (n + releaseCurvePlace) ∷ []
 
 abbrev pub lfoBytes : ℕ → List ℕ
-lfoBytes n = n ∷ (n + 4) ∷ (n + 1) ∷ []
+lfoBytes n = (n + shapePlace) ∷ (n + slewPlace) ∷ (n + keySyncPlace) ∷ []
 
 -- The numbers of the bytes that a code reads, in the order of its formula.
 unfoldable pub bytesOf : Code → List ℕ

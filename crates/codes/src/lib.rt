@@ -1,10 +1,10 @@
 // The codes of a program's generators, as the reference's builders take them, and where in a block each finds its bytes.
 ghost use mathlib.Core.Path.{_≡_};
 ghost use mathlib.Core.List.{[], _∷_};
-ghost use Prim.Native.Nat.{_≤_};
+ghost use Prim.Native.Nat.{_+_, _≤_, _<_};
 ghost use lib.ListN.{length, take};
 ghost use Rattle.codes.specs.Codes.{envelopeNumber, lfoNumber, oscillatorNumber, codeNumber, codeOf};
-ghost use Rattle.codes.specs.Bytes.{envelopeFirst, lfoFirst, fadeByte, envelopeBytes, lfoBytes, bytesOf};
+ghost use Rattle.codes.specs.Bytes.{blockLength, slewPlace, releaseCurvePlace, envelopeFirst, lfoFirst, fadeByte, envelopeBytes, lfoBytes, bytesOf};
 
 pub enum EnvelopeId {
     Vca,
@@ -62,6 +62,44 @@ pub const RESONANCE: usize = 41;
 pub const POLE: usize = 51;
 
 pub const GATE_TIME: usize = 160;
+
+// ---- the bytes of an LFO
+// How many each LFO has; those of LFO 1 begin at byte 0, and those of LFO 2 follow.
+pub const LFO_SPAN: usize = 7;
+
+pub const LFOS_END: usize = 2 * LFO_SPAN;
+
+// The places of those that are read, counted from its first byte, the rate.
+pub const FADE_TIME: usize = 1;
+
+pub const SHAPE: usize = 2;
+
+pub const KEY_SYNC: usize = 3;
+
+pub const SLEW: usize = 6;
+
+// ---- the bytes of an envelope
+// Where those of the first begin, and how many each has.
+pub const ENVELOPES: usize = 53;
+
+pub const ENVELOPE_SPAN: usize = 9;
+
+pub const ENVELOPES_END: usize = ENVELOPES + 3 * ENVELOPE_SPAN;
+
+// The places of those that are read, counted from its first byte, the attack. The one before the curves is the trigger mode's.
+pub const DECAY: usize = 1;
+
+pub const SUSTAIN: usize = 2;
+
+pub const RELEASE: usize = 3;
+
+pub const ATTACK_CURVE: usize = 5;
+
+pub const DECAY_CURVE: usize = 6;
+
+pub const SUSTAIN_CURVE: usize = 7;
+
+pub const RELEASE_CURVE: usize = 8;
 
 // The bytes that a code reads: the first `count` of eight.
 pub struct Bytes {
@@ -145,60 +183,73 @@ pub fn code_number(code: Code) -> u8
     }
 }
 
-// ---- where a generator's bytes begin
+// ---- where a generator's bytes begin, all of them in the block
 pub fn envelope_first(id: EnvelopeId) -> usize
-    ensures { λ r. ⌜ (r ≡ envelopeFirst id) × (r ≤ 71) ⌝ }
+    ensures { λ r. ⌜ (r ≡ envelopeFirst id) × (r + releaseCurvePlace < blockLength) ⌝ }
 {
     match id {
-        EnvelopeId::Vca => 53,
-        EnvelopeId::Vcf => 62,
-        EnvelopeId::Mod => 71,
+        EnvelopeId::Vca => ENVELOPES,
+        EnvelopeId::Vcf => ENVELOPES + ENVELOPE_SPAN,
+        EnvelopeId::Mod => ENVELOPES + 2 * ENVELOPE_SPAN,
     }
 }
 
 pub fn lfo_first(id: LfoId) -> usize
-    ensures { λ r. ⌜ (r ≡ lfoFirst id) × (r ≤ 9) ⌝ }
+    ensures { λ r. ⌜ (r ≡ lfoFirst id) × (r + slewPlace < blockLength) ⌝ }
 {
     match id {
-        LfoId::One => 2,
-        LfoId::Two => 9,
+        LfoId::One => 0,
+        LfoId::Two => LFO_SPAN,
     }
 }
 
 pub fn fade_byte(id: LfoId) -> usize
-    ensures { λ r. ⌜ (r ≡ fadeByte id) × (r ≤ 8) ⌝ }
+    ensures { λ r. ⌜ (r ≡ fadeByte id) × (r < blockLength) ⌝ }
 {
-    match id {
-        LfoId::One => 1,
-        LfoId::Two => 8,
-    }
+    lfo_first(id) + FADE_TIME
 }
 
 // ---- the bytes that a code reads
 fn envelope_bytes(first: usize) -> Bytes
-    requires { ⌜ first ≤ 71 ⌝ }
+    requires { ⌜ first + releaseCurvePlace < blockLength ⌝ }
     ensures { λ r. ⌜ (r .count ≤ length (r .at)) × (take (r .count) (r .at) ≡ envelopeBytes first) ⌝ }
 {
-    let n = first as u8;
     Bytes {
-        at: [n, n + 1, n + 2, n + 3, n + 5, n + 6, n + 7, n + 8],
+        at: [
+            first as u8,
+            (first + DECAY) as u8,
+            (first + SUSTAIN) as u8,
+            (first + RELEASE) as u8,
+            (first + ATTACK_CURVE) as u8,
+            (first + DECAY_CURVE) as u8,
+            (first + SUSTAIN_CURVE) as u8,
+            (first + RELEASE_CURVE) as u8,
+        ],
         count: 8,
     }
 }
 
 fn lfo_bytes(first: usize) -> Bytes
-    requires { ⌜ first ≤ 9 ⌝ }
+    requires { ⌜ first + slewPlace < blockLength ⌝ }
     ensures { λ r. ⌜ (r .count ≤ length (r .at)) × (take (r .count) (r .at) ≡ lfoBytes first) ⌝ }
 {
-    let n = first as u8;
     Bytes {
-        at: [n, n + 4, n + 1, 0, 0, 0, 0, 0],
+        at: [
+            (first + SHAPE) as u8,
+            (first + SLEW) as u8,
+            (first + KEY_SYNC) as u8,
+            0,
+            0,
+            0,
+            0,
+            0,
+        ],
         count: 3,
     }
 }
 
 fn one_byte(n: usize) -> Bytes
-    requires { ⌜ n ≤ 33 ⌝ }
+    requires { ⌜ n < blockLength ⌝ }
     ensures { λ r. ⌜ (r .count ≤ length (r .at)) × (take (r .count) (r .at) ≡ n ∷ []) ⌝ }
 {
     Bytes {

@@ -3,6 +3,7 @@ use mathlib.Core.List.{List, _++_}
 use Prim.Native.Nat.{ℕ, _+_}
 use Rattle.text.specs.Text.{ascii}
 use Rattle.codes.specs.Bytes.{sourceByte, pulseByte, sawByte, depthByte, oscillatorTwoByte, noiseByte, resonanceByte, poleByte, envelopeFirst, lfoFirst, fadeByte}
+use Rattle.codes.specs.Bytes.{shapePlace, keySyncPlace, slewPlace, decayPlace, sustainPlace, releasePlace, attackCurvePlace, decayCurvePlace, sustainCurvePlace, releaseCurvePlace}
 use Rattle.codes.specs.declared.Code.{Code}
 use Rattle.codes.specs.declared.Code.the-variants.{Envelope, Lfo, LfoUnipolar, Fade, LowPass, HighPass, Oscillator, Noise}
 use Rattle.codes.specs.declared.OscillatorId.the-variants.{One, Two}
@@ -12,14 +13,14 @@ use Rattle.dial_lines.specs.Lines.{lineOne, lineTwo, lineThree, lineFour, dialT
 -- An envelope's from byte n on.
 unfoldable pub envelopeDials : (ℕ → ℕ) → ℕ → List ℕ
 envelopeDials b n =
-    curvedDial lineOne (ascii "Attack") (b n) (b (n + 5)) ++ curvedDial lineTwo (ascii "Decay") (b (n + 1)) (b (n + 6)) ++
-    curvedDial lineThree (ascii "Sustain") (b (n + 2)) (b (n + 7)) ++ curvedDial lineFour (ascii "Release") (b (n + 3)) (b (n + 8))
+    curvedDial lineOne (ascii "Attack") (b n) (b (n + attackCurvePlace)) ++ curvedDial lineTwo (ascii "Decay") (b (n + decayPlace)) (b (n + decayCurvePlace)) ++
+    curvedDial lineThree (ascii "Sustain") (b (n + sustainPlace)) (b (n + sustainCurvePlace)) ++ curvedDial lineFour (ascii "Release") (b (n + releasePlace)) (b (n + releaseCurvePlace))
 
 -- An LFO's from byte n on.
 unfoldable pub lfoDials : (ℕ → ℕ) → ℕ → List ℕ
 lfoDials b n =
-    shapeDial (b n) ++ plainDial lineTwo (ascii "Slew rate") (b (n + 4)) ++
-    dialText lineThree (ascii "Key sync") (b (n + 1)) (switchNote (b (n + 1)))
+    shapeDial (b (n + shapePlace)) ++ plainDial lineTwo (ascii "Slew rate") (b (n + slewPlace)) ++
+    dialText lineThree (ascii "Key sync") (b (n + keySyncPlace)) (switchNote (b (n + keySyncPlace)))
 
 unfoldable pub lowPassDials : (ℕ → ℕ) → List ℕ
 lowPassDials b = plainDial lineOne (ascii "Resonance") (b resonanceByte) ++ polesDial (b poleByte)

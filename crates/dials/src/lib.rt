@@ -1,20 +1,30 @@
 // The lines of a panel that say what to dial in, for each generator.
 ghost use mathlib.Core.Path.{_≡_};
-ghost use Prim.Native.Nat.{_+_, _≤_};
+ghost use Prim.Native.Nat.{_+_, _<_};
 ghost use lib.ListN.{length};
 ghost use Rattle.text.specs.Text.{Puts};
-ghost use Rattle.codes.specs.Bytes.{byteAt, blockLength};
+ghost use Rattle.codes.specs.Bytes.{byteAt, blockLength, slewPlace, releaseCurvePlace};
 ghost use Rattle.dials.specs.Dials.{envelopeDials, lfoDials, lowPassDials, oscillatorDials, dialsOf};
+use codes::ATTACK_CURVE;
 use codes::Code;
+use codes::DECAY;
+use codes::DECAY_CURVE;
 use codes::DEPTH;
+use codes::KEY_SYNC;
 use codes::NOISE_LEVEL;
 use codes::OSCILLATOR_TWO_LEVEL;
 use codes::OscillatorId;
 use codes::POLE;
 use codes::PULSE;
+use codes::RELEASE;
+use codes::RELEASE_CURVE;
 use codes::RESONANCE;
 use codes::SAW;
+use codes::SHAPE;
+use codes::SLEW;
 use codes::SOURCE;
+use codes::SUSTAIN;
+use codes::SUSTAIN_CURVE;
 use codes::envelope_first;
 use codes::fade_byte;
 use codes::lfo_first;
@@ -29,38 +39,52 @@ use dial_lines::put_switch;
 use text::put;
 
 fn envelope_dials(out: &mut [u8], at: usize, block: &[u8], from: usize) -> usize
-    requires { ⌜ from + 8 ≤ 241 ⌝ }
+    requires { ⌜ from + releaseCurvePlace < blockLength ⌝ }
     requires { ⌜ length (now block) ≡ blockLength ⌝ }
     ensures { λ r. ⌜ Puts (now (out .entry)) at (envelopeDials (byteAt (now (block .entry))) from) (now (out .exit)) r ⌝ }
 {
-    let mut next = put_curved(out, at, 1300, b"Attack", block[from], block[from + 5]);
-    next = put_curved(out, next, 1620, b"Decay", block[from + 1], block[from + 6]);
+    let mut next = put_curved(
+        out,
+        at,
+        1300,
+        b"Attack",
+        block[from],
+        block[from + ATTACK_CURVE],
+    );
+    next = put_curved(
+        out,
+        next,
+        1620,
+        b"Decay",
+        block[from + DECAY],
+        block[from + DECAY_CURVE],
+    );
     next = put_curved(
         out,
         next,
         1940,
         b"Sustain",
-        block[from + 2],
-        block[from + 7],
+        block[from + SUSTAIN],
+        block[from + SUSTAIN_CURVE],
     );
     put_curved(
         out,
         next,
         2260,
         b"Release",
-        block[from + 3],
-        block[from + 8],
+        block[from + RELEASE],
+        block[from + RELEASE_CURVE],
     )
 }
 
 fn lfo_dials(out: &mut [u8], at: usize, block: &[u8], from: usize) -> usize
-    requires { ⌜ from + 4 ≤ 241 ⌝ }
+    requires { ⌜ from + slewPlace < blockLength ⌝ }
     requires { ⌜ length (now block) ≡ blockLength ⌝ }
     ensures { λ r. ⌜ Puts (now (out .entry)) at (lfoDials (byteAt (now (block .entry))) from) (now (out .exit)) r ⌝ }
 {
-    let mut next = put_shape(out, at, block[from]);
-    next = put_plain(out, next, 1620, b"Slew rate", block[from + 4]);
-    put_switch(out, next, 1940, b"Key sync", block[from + 1])
+    let mut next = put_shape(out, at, block[from + SHAPE]);
+    next = put_plain(out, next, 1620, b"Slew rate", block[from + SLEW]);
+    put_switch(out, next, 1940, b"Key sync", block[from + KEY_SYNC])
 }
 
 fn low_pass_dials(out: &mut [u8], at: usize, block: &[u8]) -> usize

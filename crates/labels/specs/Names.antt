@@ -5,7 +5,7 @@ use Prim.Native.Nat.{ℕ, _-_, _%_}
 use lib.Dec.{ltb}
 use Rattle.text.specs.Text.{ascii}
 use Rattle.text.specs.Words.{wordOf, indexOf}
-use Rattle.codes.specs.Bytes.{sourceByte, pulseByte, sawByte, depthByte, resonanceByte, poleByte, gatesByte}
+use Rattle.codes.specs.Bytes.{sourceByte, pulseByte, sawByte, depthByte, resonanceByte, poleByte, gatesByte, lfoSpan, lfosEnd, envelopesFrom, envelopeSpan, envelopesEnd}
 
 -- The title of panel k, with spaces up to column 17: of the generator whose code's number it is, and last of the arpeggio.
 abbrev pub titleOf : ℕ → List ℕ
@@ -24,6 +24,8 @@ envelopeName k = wordOf (ascii "attack|decay|sustain|release|trigger mode|attack
 abbrev pub otherName : ℕ → List ℕ
 otherName n = wordOf (ascii "PWM source|pulse|saw|PWM depth|resonance|poles|gate time|level") (indexOf (sourceByte ∷ pulseByte ∷ sawByte ∷ depthByte ∷ resonanceByte ∷ poleByte ∷ gatesByte ∷ []) n)
 
--- Bytes 0 to 13 are two LFOs', of seven each, and 53 to 79 three envelopes', of nine each.
+-- The bytes of the LFOs follow each other from byte 0 on, those of the envelopes from their first on.
 unfoldable pub byteName : ℕ → List ℕ
-byteName n = cond (ltb n 14) (lfoName (n % 7)) (cond (ltb n 53) (otherName n) (cond (ltb n 80) (envelopeName ((n - 53) % 9)) (otherName n)))
+byteName n =
+    cond (ltb n lfosEnd) (lfoName (n % lfoSpan))
+    (cond (ltb n envelopesFrom) (otherName n) (cond (ltb n envelopesEnd) (envelopeName ((n - envelopesFrom) % envelopeSpan)) (otherName n)))

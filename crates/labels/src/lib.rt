@@ -3,7 +3,12 @@ ghost use Rattle.text.specs.Text.{Puts};
 ghost use Rattle.labels.specs.Names.{titleOf, lfoName, envelopeName, otherName, byteName};
 ghost use Rattle.labels.specs.Notes.{switchNote, shapeNote, polesNote, sourceNote, depthNote};
 use codes::DEPTH;
+use codes::ENVELOPE_SPAN;
+use codes::ENVELOPES;
+use codes::ENVELOPES_END;
 use codes::GATE_TIME;
+use codes::LFO_SPAN;
+use codes::LFOS_END;
 use codes::POLE;
 use codes::PULSE;
 use codes::RESONANCE;
@@ -36,25 +41,20 @@ pub fn put_title(out: &mut [u8], at: usize, k: u8) -> usize
     )
 }
 
-fn put_lfo_name(out: &mut [u8], at: usize, k: u8) -> usize
+fn put_lfo_name(out: &mut [u8], at: usize, k: usize) -> usize
     ensures { λ r. ⌜ Puts (now (out .entry)) at (lfoName k) (now (out .exit)) r ⌝ }
 {
-    put_word(
-        out,
-        at,
-        b"rate|fade time|shape|key sync|slew rate",
-        k as usize,
-    )
+    put_word(out, at, b"rate|fade time|shape|key sync|slew rate", k)
 }
 
-fn put_envelope_name(out: &mut [u8], at: usize, k: u8) -> usize
+fn put_envelope_name(out: &mut [u8], at: usize, k: usize) -> usize
     ensures { λ r. ⌜ Puts (now (out .entry)) at (envelopeName k) (now (out .exit)) r ⌝ }
 {
     put_word(
         out,
         at,
         b"attack|decay|sustain|release|trigger mode|attack curve|decay curve|sustain curve|release curve",
-        k as usize,
+        k,
     )
 }
 
@@ -74,14 +74,15 @@ fn put_other_name(out: &mut [u8], at: usize, n: u8) -> usize
 pub fn put_byte_name(out: &mut [u8], at: usize, n: u8) -> usize
     ensures { λ r. ⌜ Puts (now (out .entry)) at (byteName n) (now (out .exit)) r ⌝ }
 {
-    if n < 14 {
-        return put_lfo_name(out, at, n % 7);
+    let k = n as usize;
+    if k < LFOS_END {
+        return put_lfo_name(out, at, k % LFO_SPAN);
     }
-    if n < 53 {
+    if k < ENVELOPES {
         return put_other_name(out, at, n);
     }
-    if n < 80 {
-        return put_envelope_name(out, at, (n - 53) % 9);
+    if k < ENVELOPES_END {
+        return put_envelope_name(out, at, (k - ENVELOPES) % ENVELOPE_SPAN);
     }
     put_other_name(out, at, n)
 }

@@ -15,5 +15,6 @@ lfo-at-spec =
     (λ c. search needs)
     (λ c. search needs)
     (λ c. search needs)
+    (λ c. search needs)
     (λ c κs. search needs)
     (λ c. simp (c .before .before .before .before .lfo-first .ensures .0, c .lfo-from .ensures)))

@@ -19,6 +19,7 @@ lfo-dials-spec =
     tie.close
     (tie.spec
     (λ c. omega arith)
+    (λ c. omega arith)
     (λ c κs. search needs)
     (λ c. refl)
     (λ c. omega arith)
