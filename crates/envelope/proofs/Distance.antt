@@ -3,19 +3,20 @@
 -- four more. So each stretch is one computed test of the analyser, against 128 * 2 ^ -24. Assumes nothing.
 use mathlib.Core.Path.{_≡_}
 use mathlib.Core.Bool.{Bool, true, false, not, cond}
-use lib.IntN.{pos}
+use Prim.Native.Nat.{_-_, _^_}
+use lib.IntN.{pos, negsuc}
 use lib.Dec.{T, lit<, lit≤}
 use lib.Ieee.{Float, binary32, ofBits, fits, le, lt}
 use lib.Ieee.Fits.{add-fits, mul-fits}
 use lib.Ieee.Scale.{finite}
 use Rattle.exact.specs.Fraction.{Fraction, Defined, ratio, whole, ltℚ, ifBelow}
-use Rattle.exact.specs.Value.{value, Within}
+use Rattle.exact.specs.Value.{value}
 use Rattle.exact.specs.Binary32.{zero₃₂, one₃₂}
 use Rattle.exact.proofs.Defined.{value-defined, choice-is}
 use Rattle.exact.proofs.Order.{le-value, lt-value, lt-at-most, nlt-at-most}
-use Rattle.exact.proofs.Analyser.{Expr, var, constant, plus, minus, times, analyse, certified, plain, evalFloat, evalExact}
+use Rattle.exact.proofs.Analyser.{Bound, Expr, var, constant, plus, minus, times, Approximates, analyse, plain, evalFloat, evalExact}
 use Rattle.exact.proofs.Soundness.{plainly}
-use Rattle.exact.proofs.Inputs.{range, two, two-inputs, three, three-inputs, bounded, result}
+use Rattle.exact.proofs.Inputs.{range, two, two-inputs, three, three-inputs, covers, relax, concludes, concluded, result}
 use Rattle.curve.specs.Curve.{positionOf, drawnOf, Drawn}
 use Rattle.curve.proofs.Positions.{Level, position-level}
 use Rattle.curve.proofs.Clamped.{drawn-near}
@@ -28,41 +29,49 @@ use Rattle.envelope.proofs.DivideError.{End, end-finite, Stretch, divid
 use Rattle.envelope.proofs.BendError.{bentBound, bent-near, bent-fits}
 use Rattle.envelope.proofs.Ends.{level-end, zero-end, one-end, first-end, second-end, third-end}
 
--- ---- THE BLENDS of two levels, as expressions
+-- ---- A LEVEL, from -1 to 2 as intervals see it, off by at most 1 / 131,072
+levelBound : Bound
+levelBound = record { lo = negsuc (2 ^ 149 - 1); hi = pos (2 ^ 150); err = 2 ^ 132 }
+
+-- a bend is one; and the blends of two levels are, as expressions
+attack-ok : T (covers bentBound levelBound)
+unfolding covers bentBound levelBound
+attack-ok = tt
+
 decay : Expr
 decay = plus (constant one₃₂) (times (minus (var 0) (constant one₃₂)) (var 1))
 
-decay-ok : T (certified binary32 (two unit bentBound) decay 1 131072)
-unfolding certified analyse decay unit bentBound range two ofBits
+decay-ok : T (concludes binary32 (two unit bentBound) decay levelBound)
+unfolding concludes covers analyse decay unit bentBound levelBound range two ofBits
 decay-ok = tt
 
 sustain : Expr
 sustain = plus (var 0) (times (minus (var 1) (var 0)) (var 2))
 
-sustain-ok : T (certified binary32 (three unit unit divideBound) sustain 1 131072)
-unfolding certified analyse sustain unit divideBound range three ofBits
+sustain-ok : T (concludes binary32 (three unit unit divideBound) sustain levelBound)
+unfolding concludes covers analyse sustain unit divideBound levelBound range three ofBits
 sustain-ok = tt
 
 release : Expr
 release = times (var 0) (minus (constant one₃₂) (var 1))
 
-release-ok : T (certified binary32 (two unit bentBound) release 1 131072)
-unfolding certified analyse release unit bentBound range two ofBits
+release-ok : T (concludes binary32 (two unit bentBound) release levelBound)
+unfolding concludes covers analyse release unit bentBound levelBound range two ofBits
 release-ok = tt
 
 -- ---- THE STRETCHES, at a position that lies in them
 -- a float of binary32 within the bound
 record LevelNear (x : Float) (A : Fraction) : Type 0 where
   holds : T (fits binary32 x)
-  within : Within (value x) A (ratio 1 131072)
+  near : Approximates binary32 x A levelBound
 
 attack-near : (e : Envelope) (t : Float) → EnvelopeRange e → Stretch t zero₃₂ (e .first) → LevelNear (attackOf e t) (attackℚ e (value t))
-unfolding attackOf attackℚ bentBound value ofBits
+unfolding attackOf attackℚ value ofBits
 attack-near e t r s =
     let u = divideOf t zero₃₂ (e .first) in
     record {
       holds = bent-fits u (e .«attack_bend») (divide-fits t zero₃₂ (e .first));
-      within = result binary32 _ _ bentBound 1 131072 (lit< tt) (bent-near u (e .«attack_bend») _ (divide-near t zero₃₂ (e .first) s) (r .attack)) (lit≤ tt);
+      near = relax binary32 _ _ bentBound levelBound (bent-near u (e .«attack_bend») _ (divide-near t zero₃₂ (e .first) s) (r .attack)) attack-ok;
     }
 
 decay-near : (e : Envelope) (t : Float) → EnvelopeRange e → Stretch t (e .first) (e .second) → LevelNear (decayOf e t) (decayℚ e (value t))
@@ -74,7 +83,7 @@ decay-near e t r s =
     let c = e .sustain in
     record {
       holds = add-fits binary32 _ _;
-      within = bounded binary32 (two c b) (two (value c) B) (two unit bentBound) (two-inputs binary32 c b (value c) B unit bentBound (level-input c (r .sustain)) h) decay (plainly binary32 (two (value c) B) decay tt) 1 131072 (lit< tt) decay-ok;
+      near = concluded binary32 (two c b) (two (value c) B) (two unit bentBound) (two-inputs binary32 c b (value c) B unit bentBound (level-input c (r .sustain)) h) decay (plainly binary32 (two (value c) B) decay tt) levelBound decay-ok;
     }
 
 sustain-near : (e : Envelope) (t : Float) → EnvelopeRange e → Stretch t (e .second) (e .third) → LevelNear (sustainOf e t) (sustainℚ e (value t))
@@ -86,10 +95,10 @@ sustain-near e t r s =
     let d = e .«sustain_end» in
     record {
       holds = add-fits binary32 _ _;
-      within =
-          bounded binary32 (three c d u) (three (value c) (value d) X) (three unit unit divideBound)
+      near =
+          concluded binary32 (three c d u) (three (value c) (value d) X) (three unit unit divideBound)
           (three-inputs binary32 c d u (value c) (value d) X unit unit divideBound (level-input c (r .sustain)) (level-input d (r .sustain-end)) (divide-near t (e .second) (e .third) s))
-          sustain (plainly binary32 (three (value c) (value d) X) sustain tt) 1 131072 (lit< tt) sustain-ok;
+          sustain (plainly binary32 (three (value c) (value d) X) sustain tt) levelBound sustain-ok;
     }
 
 release-near : (e : Envelope) (t : Float) → EnvelopeRange e → Stretch t (e .third) one₃₂ → LevelNear (releaseOf e t) (releaseℚ e (value t))
@@ -101,7 +110,7 @@ release-near e t r s =
     let d = e .«sustain_end» in
     record {
       holds = mul-fits binary32 _ _;
-      within = bounded binary32 (two d b) (two (value d) B) (two unit bentBound) (two-inputs binary32 d b (value d) B unit bentBound (level-input d (r .sustain-end)) h) release (plainly binary32 (two (value d) B) release tt) 1 131072 (lit< tt) release-ok;
+      near = concluded binary32 (two d b) (two (value d) B) (two unit bentBound) (two-inputs binary32 d b (value d) B unit bentBound (level-input d (r .sustain-end)) h) release (plainly binary32 (two (value d) B) release tt) levelBound release-ok;
     }
 
 -- ---- EVERY POSITION: from 0 to 1, in the first stretch whose end it is below, or in the release
@@ -143,11 +152,11 @@ level-near e t r h =
 
 -- ---- THE THEOREM
 pub envelope-drawn : (e : Envelope) → EnvelopeRange e → (t : Float) → T (fits binary32 t) → Drawn (envelopeHeightOf e t .height) (envelopeHeightℚ e t) (ratio 1 131072)
-unfolding envelopeHeightOf drawnOf envelopeHeightℚ
+unfolding envelopeHeightOf drawnOf envelopeHeightℚ levelBound
 envelope-drawn e r t f =
     let p = positionOf t in
     let n = level-near e p r (position-level t f) in
-    drawn-near (envelopeLevelOf e p) (envelopeLevelℚ e (value p)) 1 131072 (n .holds) (n .within)
+    drawn-near (envelopeLevelOf e p) (envelopeLevelℚ e (value p)) 1 131072 (n .holds) (result binary32 _ _ levelBound 1 131072 (lit< tt) (n .near) (lit≤ tt))
 
 -- no exact height divides by zero
 pub height-defined : (e : Envelope) → EnvelopeRange e → (t : Float) → T (fits binary32 t) → Defined (envelopeHeightℚ e t)

@@ -6,10 +6,10 @@ use mathlib.Core.Bool.{Bool, true, false, not, cond}
 use Prim.Native.Nat.{_+_, _-_, _*_, _^_}
 use lib.IntN.{pos}
 use lib.Dec.{T, lit<, lit≤}
-use lib.Ieee.{Float, binary32, ofBits, fits, le, lt}
+use lib.Ieee.{Float, binary32, ofBits, fits, le, lt, sub, div}
 use lib.Ieee.Fits.{sub-fits, div-fits, cond-fits}
 use lib.Ieee.Scale.{finite, overflow}
-use Rattle.exact.specs.Fraction.{Fraction, Defined, ratio, whole, clampUnitℚ, ltℚ, _+ℚ_, _-ℚ_, _*ℚ_, _/ℚ_, _≤ℚ_}
+use Rattle.exact.specs.Fraction.{Fraction, Defined, ratio, whole, absℚ, clampUnitℚ, ltℚ, _+ℚ_, _-ℚ_, _*ℚ_, _/ℚ_, _≤ℚ_}
 use Rattle.exact.specs.Value.{value, Within, RelativelyWithin}
 use Rattle.exact.specs.Binary32.{_⊖_, _⊘_, bits, zero₃₂, one₃₂}
 use Rattle.exact.proofs.Defined.{value-defined, given-is, choice-is}
@@ -28,6 +28,11 @@ use Rattle.envelope.specs.Formula.{divideOf}
 use Rattle.envelope.specs.Exact.{divideℚ}
 use Rattle.exact.proofs.Signs.{Positive, positive-abs, abs-at-most, difference-positive, difference-nonnegative, difference-nonpositive, difference-monotone, relative-nonpositive, relative-nonnegative, relative-positive, quotient-nonnegative, quotient-at-most-one}
 use Rattle.exact.proofs.FloatBounds.{within-near, positive-quantum, finite-upper, positive-test}
+
+-- ---- A NARROW STRETCH, computed: the float after 1 lies a third of the way from 1 to the third float after it
+divide-narrow : T (ltℚ (absℚ (value (divideOf (bits 0x3f80_0001) one₃₂ (bits 0x3f80_0003)) -ℚ ratio 1 3)) (ratio 4 (2 ^ 24)))
+unfolding divideOf clampOf value ofBits le lt sub div
+divide-narrow = tt
 
 -- ---- AN END, and a position: a float of binary32 from 0 to 2
 pub record End (x : Float) : Type 0 where

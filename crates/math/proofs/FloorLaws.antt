@@ -1,14 +1,16 @@
 -- THE LAW OF floor: the floor of a finite x is the floor of its value, a whole number; it is not above x, and x is below the next whole number. Assumes nothing.
+use mathlib.Core.Path.{_≡_, refl}
 use mathlib.Core.Bool.{true, false, false≢true, true≢false}
 use Prim.Native.Nat.{_*_}
 use native.Mathlib.Omega.{arith}
 use lib.Dec.{T, lit<}
 use lib.IntN.{ℤ, pos, negsuc}
-use lib.Ieee.{Float, nan, inf, fin, binary32, up, fits}
+use lib.Ieee.{Float, nan, inf, fin, binary32, up, ofBits, ofInt, neg, fits}
 use lib.Ieee.Fits.{down-pos}
 use lib.Ieee.Scale.{finite}
 use Rattle.exact.specs.Fraction.{whole, floorℚ, ltℚ, _+ℚ_, _≤ℚ_}
 use Rattle.exact.specs.Value.{value, Equal}
+use Rattle.exact.specs.Binary32.{quarter₃₂, one₃₂}
 use Rattle.exact.proofs.Parts.{neg⁺, neg⁻}
 use Rattle.exact.proofs.Defined.{value-defined}
 use Rattle.exact.proofs.Order.{≤ℚ-trans, parts-equal, equal-at-most}
@@ -16,6 +18,11 @@ use Rattle.exact.proofs.Floor.{floor-below, floor-above}
 use Rattle.math.specs.Formulas.{floorOf}
 use Rattle.math.proofs.Whole.{Whole}
 use Rattle.math.proofs.FloorExact.{floor-exact}
+
+-- below 0 it goes away from 0: the floor of -1/4 is -1
+floor-minus-quarter : floorOf (neg quarter₃₂) ≡ neg one₃₂
+unfolding floorOf value ofBits ofInt neg
+floor-minus-quarter = refl
 
 -- what holds z has the value z
 whole-value : (y : Float) (z : ℤ) → Whole y z → Equal (value y) (whole z)

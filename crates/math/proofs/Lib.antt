@@ -17,7 +17,6 @@ pub mod Every
 pub mod Phase
 pub mod Fold
 pub mod SineError
-pub mod SineRange
 pub mod SinePolynomial
 pub mod SineEnclosure
 pub mod Exp2Error

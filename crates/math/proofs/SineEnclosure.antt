@@ -1,5 +1,5 @@
 -- THE EXACT SINE PASSES 1 BY AT MOST 3.21 MILLIONTHS over a quarter turn, and so -1 over a turn. Up to 5/32 of a turn, and of
--- the terms from order 9 up, intervals say so; the rest is the polynomial of SinePolynomial. Assumes nothing.
+-- the terms from order 9 up, intervals say so; the rest is the polynomial of SinePolynomial. The range of sin_turns follows. Assumes nothing.
 use mathlib.Core.Path.{_≡_, refl, sym, subst, subst₂}
 use mathlib.Core.Logic.{_⊎_, inl, inr}
 use mathlib.Core.Bool.{Bool, true, false, cond}
@@ -11,6 +11,7 @@ use lib.Dec.{T, lit<, lit≤}
 use lib.Pow.{pow-pos}
 use lib.Signed.{leZ-yes}
 use lib.Ieee.{Float, binary32, ofBits, fits}
+use lib.Ieee.Fits.{mul-fits}
 use Rattle.exact.specs.Fraction.{Fraction, ratio, whole, negℚ, ltℚ, _*ℚ_, _≤ℚ_}
 use Rattle.exact.proofs.Parts.{num⁺, num⁻, neg⁺, neg⁻, mul⁺, mul⁻, times⁺, times⁻}
 use Rattle.exact.proofs.Defined.{choice-is}
@@ -18,14 +19,15 @@ use Rattle.exact.proofs.Order.{≤ℚ-parts, parts-≤ℚ, ≤ℚ-trans, ≤ℚ
 use Rattle.exact.proofs.Bounds.{lower-at, upper-at}
 use Rattle.exact.proofs.Analyser.{Bound, Expr, var, approx, times, Approximates, Lower, Upper, plain, evalExact, analyse}
 use Rattle.exact.proofs.Soundness.{plainly}
-use Rattle.exact.proofs.Inputs.{one, one-input, exact-input, covers, concludes, concluded}
+use Rattle.exact.proofs.Inputs.{one, one-input, exact-input, covers, relax, concludes, concluded}
+use Rattle.exact.proofs.OwnRange.{widened, own-range}
 use Rattle.exact.specs.Value.{value}
 use Rattle.exact.specs.Binary32.{bits}
 use Rattle.math.proofs.SeriesExpr.{exactly, nearestTo}
 use Rattle.math.proofs.Fold.{Turned, half-turn, quarter-turn}
 use Rattle.math.proofs.Phase.{Phase, fract-turned}
 use Rattle.math.proofs.SineError.{turnsBound, sin-turns-near}
-use Rattle.math.specs.Formulas.{fractOf, halfOf, quarterOf, sinTurnsOf}
+use Rattle.math.specs.Formulas.{fractOf, halfOf, quarterOf, sineOfCycle, sinTurnsOf}
 use Rattle.math.specs.Horner.{hornerℚ}
 use Rattle.math.specs.Series.{fractℚ, turn, terms, factorial, sineTerm, sineTerms, halfℚ, quarterℚ, signℚ, sineOfAngleℚ, sineOfQuarterℚ, sineOfCycleℚ, sinTurnsℚ}
 use Rattle.math.proofs.SinePolynomial.{Below, tailAt, angle-most}
@@ -224,3 +226,16 @@ sine-enclosed x f p =
       lower = lower-below (2 ^ 149) (signℚ C *ℚ sineOfQuarterℚ Q) 100000321 100000000 (beyond - 1) (lit< tt) (lit≤ tt) (z .from);
       upper = upper-at (2 ^ 149) (signℚ C *ℚ sineOfQuarterℚ Q) 100000321 100000000 beyond (lit< tt) (lit≤ tt) (z .to);
     }
+
+-- ---- THE RANGE of sin_turns itself: from -47/32 to 47/32, which is less than the 1.5 that the noise raises it by
+unfoldable pub sineRange : Bound
+sineRange = record { lo = negsuc (47 * 2 ^ 144 - 1); hi = pos (47 * 2 ^ 144); err = 0 }
+
+wide : T (covers (widened sineBound) sineRange)
+unfolding covers sineBound sineRange
+wide = tt
+
+pub sin-turns-range : (x : Float) → T (fits binary32 x) → Phase x → Approximates binary32 (sinTurnsOf x) (value (sinTurnsOf x)) sineRange
+sin-turns-range x f p =
+    let y = sinTurnsOf x in
+    relax binary32 y (value y) (widened sineBound) sineRange (own-range binary32 y (sinTurnsℚ (value x)) sineBound (unfold sinTurnsOf sineOfCycle in mul-fits binary32 _ _) (sine-enclosed x f p)) wide

@@ -37,6 +37,8 @@ floorOf nan = nan
 floorOf (inf s) = inf s
 floorOf (fin s m e) = ofInt binary32 (floorℚ (value (fin s m e)))
 
+-- What is left of x above its floor, rounded once.
+-- Of a small x below 0 that may be 1.
 unfoldable pub fractOf : Float → Float
 fractOf x = x ⊖ floorOf x
 

@@ -25,7 +25,7 @@ use Rattle.math.specs.Formulas.{fractOf, sinTurnsOf}
 use Rattle.math.specs.Series.{fractℚ}
 use Rattle.math.proofs.Phase.{Phase, from-zero, fract-turned}
 use Rattle.exact.proofs.OwnRange.{approximates-finite, own-range}
-use Rattle.math.proofs.SineRange.{sineRange, sin-turns-range}
+use Rattle.math.proofs.SineEnclosure.{sineRange, sin-turns-range}
 use Rattle.curve.proofs.Positions.{Level, level-finite}
 use Rattle.noise.specs.Formula.{noiseAtOf}
 use Rattle.curve.proofs.LevelInput.{unit, level-input}

@@ -5,7 +5,7 @@ use mathlib.Core.Bool.{Bool, true, false, cond}
 use Prim.Native.Nat.{_-_, _^_}
 use lib.IntN.{pos, negsuc}
 use lib.Dec.{T, eqb, lit<}
-use lib.Ieee.{Float, binary32, ofBits, ofInt, neg, lt, fits}
+use lib.Ieee.{Float, binary32, ofBits, ofInt, neg, mul, sub, lt, fits}
 use lib.Ieee.Fits.{cond-fits, add-fits}
 use lib.Ieee.Bits.{ofBits-fits}
 use Rattle.exact.specs.Fraction.{Fraction, ratio}
@@ -27,6 +27,11 @@ use Rattle.curve.proofs.LevelInput.{unit, level-input}
 -- ---- THE WAVES: both lie from -1 to 1
 wave : Bound
 wave = record { lo = negsuc (2 ^ 149 - 1); hi = pos (2 ^ 149); err = 2 ^ 126 }
+
+-- the saw at its edges
+saw-edges : (sawOf zero₃₂ ≡ neg one₃₂) × (sawOf one₃₂ ≡ one₃₂)
+unfolding sawOf ofBits neg mul sub
+saw-edges = (refl, refl)
 
 sawExpr : Expr
 sawExpr = minus (times (var 0) (constant (bits 0x4000_0000))) (constant one₃₂)
