@@ -183,7 +183,8 @@ some-width t from to s l =
 pub divide-near : (t from to : Float) → Stretch t from to → Approximates binary32 (divideOf t from to) (divideℚ (value t) (value from) (value to)) divideBound
 unfolding divideOf divideℚ
 divide-near t from to s =
-    rw (choice-is (value from) (value to) (has-value from (s .start)) (has-value to (s .stop)), given-is (value t .den) (has-value t (s .at)), sign-agrees to from (s .stop) (s .start)) (go (ltℚ (value from) (value to)) (some-width t from to s))
+    rw (choice-is (value from) (value to) (has-value from (s .start)) (has-value to (s .stop)), given-is (value t .den) (has-value t (s .at)))
+    (rw (sign-agrees to from (s .stop) (s .start)) (go (ltℚ (value from) (value to)) (some-width t from to s)))
   where
     has-value : (x : Float) → End x → Defined (value x)
     has-value x h = value-defined x .1 (end-finite x h)

@@ -1,8 +1,8 @@
 -- WHAT HAS NO VALUE STAYS WITHOUT ONE: the result of an operation is defined exactly where its operands are, and a quotient where besides
 -- its divisor is not 0. A float's value is defined exactly where the float is finite. By the denominators: a sum's, a product's, a minimum's
--- and a maximum's is the product of the operands', which is above 0 just where both are. A choice is defined exactly where both numbers that are
--- compared are, and the one that is chosen; what is made of a floor, where the number is that has the floor. Each lemma is an equivalence: `.0` leads
--- from the result to the operands and `.1` back. Assumes nothing.
+-- and a maximum's is the product of the operands', which is above 0 just where both are. A choice is defined exactly where both
+-- numbers that are compared are, and the one that is chosen; what is made of a floor, where the number is that has the floor.
+-- Each lemma is an equivalence: `.0` leads from the result to the operands and `.1` back. Assumes nothing.
 use mathlib.Core.Path.{_≡_, refl}
 use mathlib.Core.Bool.{cond}
 use mathlib.Core.Logic.{_↔_}

@@ -1,7 +1,8 @@
 -- EXACT FRACTIONS. A fraction is a whole number over a natural number, and is defined where the natural number is above 0.
 -- What has no value is a fraction over 0: a quotient by zero, and the value of a NaN or of an infinity (Value.antt).
--- Every operation that gives a fraction keeps that: its result is defined only where its operands are (proofs/Defined.antt). `ltℚ` and `floorℚ` give no
--- fraction, and say nothing of what has no value: a fraction that is chosen by them is chosen by `ifBelow` and `atFloor`. Definitions only.
+-- Every operation that gives a fraction keeps that: its result is defined only where its operands are (proofs/Defined.antt).
+-- `ltℚ` and `floorℚ` give no fraction, and what they answer of a fraction over 0 means nothing: where a comparison or a floor
+-- alone decides which fraction it is, `ifBelow` and `atFloor` choose. Definitions only.
 use mathlib.Core.Bool.{Bool, cond}
 use Prim.Native.Nat.{ℕ, zero, suc, _*_, _/_, _<_}
 use lib.IntN.{ℤ, pos, negsuc, negℤ, natAbs, _+ℤ_, _*ℤ_}
@@ -91,7 +92,7 @@ floorOver (negsuc n) d = negsuc (n / d)
 abbrev pub floorℚ : Fraction → ℤ
 floorℚ a = floorOver (a .num) (a .den)
 
--- ---- what is chosen by a comparison or a floor: no value where one of the numbers that are compared, or the floor's, has none
+-- ---- what is chosen by a comparison or by a floor: it has no value where what is compared, or what has the floor, has none
 -- x, and no value where d is 0
 unfoldable pub given : ℕ → Fraction → Fraction
 given zero x = ratio 0 0

@@ -103,7 +103,8 @@ unfolding fadeLevelOf fadeℚ
 fade-level-near f r x h =
     let e = f .end in
     let d = value-defined x .1 (level-finite x h) in
-    rw (choice-is (value x) (value e) d (value-defined e .1 (level-finite e (r .end))), lt-value x e (level-finite x h) (level-finite e (r .end))) (go (ltℚ (value x) (value e)) (rising x e h (r .end)))
+    rw (choice-is (value x) (value e) d (value-defined e .1 (level-finite e (r .end))), lt-value x e (level-finite x h) (level-finite e (r .end)))
+    (go (ltℚ (value x) (value e)) (rising x e h (r .end)))
   where
     go : (b : Bool) → (T b → Within (value (x ⊘ f .end)) (value x /ℚ value (f .end)) (ratio 1 262144)) → Within (value (cond b (x ⊘ f .end) one₃₂)) (cond b (value x /ℚ value (f .end)) (ratio 1 1)) (ratio 1 262144)
     go true k = k tt

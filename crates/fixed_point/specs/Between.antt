@@ -11,7 +11,8 @@ use Rattle.exact.specs.Binary32.{zero₃₂, one₃₂}
 abbrev pub units : ℕ → Fraction
 units n = ratio n (2 ^ 32)
 
--- x is a number, what it holds is not below low units, and high units are not below it. A NaN and an infinity lie nowhere.
+-- x is a number, what it holds is not below low units, and high units are not below it.
+-- A NaN and an infinity lie nowhere.
 unfoldable pub betweenOf : Float → ℕ → ℕ → Bool
 betweenOf x low high = finite x && (not (ltℚ (value x) (units low)) && not (ltℚ (units high) (value x)))
 

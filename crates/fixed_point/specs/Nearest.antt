@@ -6,7 +6,8 @@ use Rattle.exact.specs.Fraction.{Fraction, ratio, floorℚ, _+ℚ_, _*ℚ_}
 use Rattle.exact.specs.Value.{value}
 use Rattle.curve.specs.Curve.{positionOf}
 
--- The whole number nearest to a fraction that has a value and is not negative, and of two the larger. What it gives for a fraction over 0 means nothing: it is asked of positions alone, and they have a value.
+-- The whole number nearest to a fraction that has a value and is not negative, and of two the larger.
+-- What it gives for a fraction over 0 means nothing: it is asked of positions alone, and they have a value.
 abbrev pub nearestℚ : Fraction → ℕ
 nearestℚ a = natAbs (floorℚ (a +ℚ ratio 1 2))
 

@@ -1,5 +1,5 @@
--- HEIGHTS AND STEPS THAT ARE KNOWN BEFOREHAND: docs/SPECIFICATION.md, "Examples". One table: a shape, built from its bytes, a position, and what its height must be there: the
--- height's bits, with no step, or the steps of a walk. Assumes nothing.
+-- HEIGHTS AND STEPS THAT ARE KNOWN BEFOREHAND: docs/SPECIFICATION.md, "Examples". One table: a shape, built from its bytes, a
+-- position, and what its height must be there: the height's bits, with no step, or the steps of a walk. Assumes nothing.
 use mathlib.Core.Bool.{Bool, false, _&&_}
 use mathlib.Core.List.{List, [], _∷_}
 use Prim.Native.Nat.{ℕ}
@@ -47,7 +47,8 @@ rows =
     -- fade byte 0: the height is 1
     (AFade (fadeOf 0), zero₃₂, drawn 0x3f80_0000) ∷ (AFade (fadeOf 0), one₃₂, drawn 0x3f80_0000)
     -- triangle: 0, 0.5, 1 and 0
-    ∷ (lfo 1 0, zero₃₂, drawn 0x0000_0000) ∷ (lfo 1 0, quarter₃₂, drawn 0x3f00_0000) ∷ (lfo 1 0, half₃₂, drawn 0x3f80_0000) ∷ (lfo 1 0, one₃₂, drawn 0x0000_0000)
+    ∷ (lfo 1 0, zero₃₂, drawn 0x0000_0000) ∷ (lfo 1 0, quarter₃₂, drawn 0x3f00_0000)
+    ∷ (lfo 1 0, half₃₂, drawn 0x3f80_0000) ∷ (lfo 1 0, one₃₂, drawn 0x0000_0000)
     -- ramp up: 0 and 1; square: 1, 0 and 0
     ∷ (lfo 3 0, zero₃₂, drawn 0x0000_0000) ∷ (lfo 3 0, one₃₂, drawn 0x3f80_0000)
     ∷ (lfo 2 0, zero₃₂, drawn 0x3f80_0000) ∷ (lfo 2 0, half₃₂, drawn 0x0000_0000) ∷ (lfo 2 0, one₃₂, drawn 0x0000_0000)

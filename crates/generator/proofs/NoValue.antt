@@ -1,5 +1,6 @@
--- WHAT HAS NO VALUE GIVES NONE: where a number that an exact height is worked from has no value, the exact height has none. Two tables, each tested by computation: the functions that choose by a
--- comparison or by a floor, at the fractions over 0; and every setting that a height takes the value of, as a NaN. That each operation keeps it is `exact/proofs/Defined`. Assumes nothing.
+-- WHAT HAS NO VALUE GIVES NONE: where a number that an exact height is worked from has no value, the exact height has none.
+-- Two tables, each tested by computation: the functions that choose by a comparison or by a floor, at the fractions over 0; and
+-- every setting that a height takes the value of, as a NaN. That each operation keeps it is `exact/proofs/Defined`. Assumes nothing.
 use mathlib.Core.Bool.{Bool, true, false, _&&_}
 use mathlib.Core.List.{List, [], _∷_}
 use lib.Dec.{T, eqb}
@@ -38,9 +39,11 @@ choices : List (Fraction → Fraction)
 choices =
     (λ a. fadeℚ a (ratio 1 2)) ∷ (λ a. fadeℚ (ratio 1 2) a)
     -- a position between two ends, the one end, the other, and a position where the ends are one
-    ∷ (λ a. divideℚ a (ratio 0 1) (ratio 1 1)) ∷ (λ a. divideℚ (ratio 1 2) a (ratio 1 1)) ∷ (λ a. divideℚ (ratio 1 2) (ratio 0 1) a) ∷ (λ a. divideℚ a (ratio 1 1) (ratio 1 1))
+    ∷ (λ a. divideℚ a (ratio 0 1) (ratio 1 1)) ∷ (λ a. divideℚ (ratio 1 2) a (ratio 1 1))
+    ∷ (λ a. divideℚ (ratio 1 2) (ratio 0 1) a) ∷ (λ a. divideℚ a (ratio 1 1) (ratio 1 1))
     ∷ halfℚ ∷ quarterℚ ∷ signℚ ∷ exp2ℚ ∷ log2ℚ ∷ limitℚ
-    ∷ shapeℚ Sine ∷ shapeℚ Triangle ∷ shapeℚ Square ∷ shapeℚ RampUp ∷ shapeℚ RampDown ∷ shapeℚ SampleAndHold ∷ shapeℚ SampleAndGlide
+    ∷ shapeℚ Sine ∷ shapeℚ Triangle ∷ shapeℚ Square ∷ shapeℚ RampUp ∷ shapeℚ RampDown
+    ∷ shapeℚ SampleAndHold ∷ shapeℚ SampleAndGlide
     ∷ []
 
 chooses-none : (Fraction → Fraction) → Bool
@@ -78,12 +81,16 @@ settings =
     ∷ (λ x. envelope zero₃₂ one₃₂ one₃₂ one₃₂ one₃₂ one₃₂ x one₃₂)
     ∷ (λ x. envelope zero₃₂ zero₃₂ zero₃₂ one₃₂ one₃₂ one₃₂ one₃₂ x)
     -- an LFO's turns, without slew and with
-    ∷ (λ x. lfo Sine x zero₃₂) ∷ (λ x. lfo Triangle x zero₃₂) ∷ (λ x. lfo Square x zero₃₂) ∷ (λ x. lfo RampUp x zero₃₂) ∷ (λ x. lfo RampDown x zero₃₂)
-    ∷ (λ x. lfo SampleAndHold x zero₃₂) ∷ (λ x. lfo SampleAndGlide x zero₃₂) ∷ (λ x. lfo Square x one₃₂) ∷ (λ x. lfo Square one₃₂ x)
+    ∷ (λ x. lfo Sine x zero₃₂) ∷ (λ x. lfo Triangle x zero₃₂) ∷ (λ x. lfo Square x zero₃₂) ∷ (λ x. lfo RampUp x zero₃₂)
+    ∷ (λ x. lfo RampDown x zero₃₂) ∷ (λ x. lfo SampleAndHold x zero₃₂) ∷ (λ x. lfo SampleAndGlide x zero₃₂) ∷ (λ x. lfo Square x one₃₂)
+    -- its slew
+    ∷ (λ x. lfo Square one₃₂ x)
     -- a filter's slope and span; its resonance by the peak that is added to the roll-off
-    ∷ (λ x. at (AFilter (filter x one₃₂ one₃₂))) ∷ (λ x. at (AFilter (filter one₃₂ one₃₂ x))) ∷ (λ x. scaledℚ (ratio 0 1) (peakℚ (filter one₃₂ x one₃₂) (ratio 0 1)))
+    ∷ (λ x. at (AFilter (filter x one₃₂ one₃₂))) ∷ (λ x. at (AFilter (filter one₃₂ one₃₂ x)))
+    ∷ (λ x. scaledℚ (ratio 0 1) (peakℚ (filter one₃₂ x one₃₂) (ratio 0 1)))
     -- an oscillator's level, and a noise's
-    ∷ (λ x. at (AnOscillator (record { saw = true; pulse = true; width = half₃₂; sweep = zero₃₂; level = x }))) ∷ (λ x. at (ANoise (record { level = x })))
+    ∷ (λ x. at (AnOscillator (record { saw = true; pulse = true; width = half₃₂; sweep = zero₃₂; level = x })))
+    ∷ (λ x. at (ANoise (record { level = x })))
     ∷ []
 
 without : (Float → Fraction) → Bool

@@ -32,7 +32,8 @@ levelAfterℚ s limit (suc k) = movedℚ s limit (value (placeOf k)) (value (pla
 unfoldable pub cutAfterℚ : LfoShape → Fraction → Float → ℕ → Fraction
 cutAfterℚ s limit phase k = movedℚ s limit (value (placeOf k)) (value (minOf (placeOf (suc k)) phase)) (levelAfterℚ s limit k)
 
--- The exact height of an LFO: the shape itself at slew 0. No place reaches a phase that has no value, and then the walk has none either.
+-- The exact height of an LFO: the shape itself at slew 0. No place reaches a phase that has no value, and then the walk has
+-- none either.
 unfoldable pub lfoHeightℚ : Lfo → Float → Fraction
 lfoHeightℚ l t =
     cond (le (l .slew) zero₃₂)

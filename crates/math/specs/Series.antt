@@ -17,7 +17,7 @@ unfoldable pub factorial : ℕ → ℕ
 factorial zero = 1
 factorial (suc n) = suc n * factorial n
 
--- what is left of a number above its floor: of what has no value it has none either, since the number itself stands in it
+-- what is left of a number above its floor: it has no value where the number, which stands in it, has none
 abbrev pub fractℚ : Fraction → Fraction
 fractℚ a = a -ℚ whole (floorℚ a)
 

@@ -15,7 +15,8 @@ use Rattle.taps.specs.Formula.{tapWidth, usedOf, atOf, tallOf}
 abbrev pub spikeℚ : Fraction → Fraction → Fraction
 spikeℚ H D = H *ℚ (ratio 1 1 -ℚ D /ℚ value tapWidth)
 
--- The height so far with one tap more. A tap at a NaN reaches nothing, and so adds nothing; one that reaches, and whose height is a NaN, leaves no value.
+-- The height so far with one tap more. A tap at a NaN reaches nothing, and so adds nothing; one that reaches, and whose
+-- height is a NaN, leaves no value.
 unfoldable pub tapHeightℚ : Float → Float → Float → Fraction → Fraction
 tapHeightℚ at tall p height = cond (lt (absOf (p ⊖ at)) tapWidth) (maxℚ height (spikeℚ (value tall) (absℚ (value p -ℚ value at)))) height
 
