@@ -174,10 +174,12 @@ else
   apart=()
 fi
 
-# small COMMAND..: with `disk` of 16 kB, on which page.svg is a page of other bytes
+# small COMMAND..: with `disk` of 16 kB, on which page.svg is a page of other bytes; with full=yes nothing more has room there
+full=
 small() {
   # shellcheck disable=SC2016
-  "${apart[@]}" sh -c 'mount -t tmpfs -o size=16k none disk && echo other >disk/page.svg || exit 77
+  full=$full "${apart[@]}" sh -c 'mount -t tmpfs -o size=16k none disk && echo other >disk/page.svg || exit 77
+    [ -z "$full" ] || cat /dev/zero >disk/fill 2>/dev/null
     "$@"; got=$?; ls -A disk >listed; cp disk/page.svg now.svg; umount disk; exit "$got"' sh "$@"
 }
 
@@ -197,6 +199,12 @@ else
   refused "disk/page.svg: cannot be written" small "$juvrada" compare --svg -o disk/page.svg example changed
   expect "a page is written over on a full disk" [ "$(cat listed now.svg)" = $'page.svg\nother' ]
   refused "sheet: no whole text in the temporary folder; expected '</svg>' in its last line" small env TMPDIR=disk "$juvrada" sheet example
+  full=yes
+  refused "the temporary folder cannot be written" small env TMPDIR=disk "$juvrada" sheet
+  refused "example: cannot be copied: No space left on device; $block" small env TMPDIR=disk "$juvrada" sheet example
+  refused "standard input: cannot be copied: No space left on device; $block" small env TMPDIR=disk "$juvrada" compare - changed <example
+  refused "checklist: no whole text in the temporary folder; expected ' rows ' in its last line" small env TMPDIR=disk "$juvrada" check
+  full=
   refused "folder/page.svg: nothing can be written beside it" frozen folder "$juvrada" sheet -o folder/page.svg example
   same sheet-example 0 frozen "$root" "$juvrada" sheet example
   same check 0 frozen "$root" "$juvrada" check
