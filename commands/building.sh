@@ -136,7 +136,6 @@ prove() { # PROGRAM or '', PRODUCT..
 note() {
     for name in "$@"; do
         made=$(product "$name")
-        rm -f "$made.digest"
         # rt does not look whether a program that it has proved is still there
         [ -s "$made" ] || rm -f "$root/target/stamp/$name"
         { sources "$name" && toolchain; } >"$scratch/$name.digest" || fail "$name: its sources cannot be read"

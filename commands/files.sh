@@ -19,6 +19,11 @@ block() { # NAME COPY
     [ "$size" -eq 242 ] || fail "$name: $size bytes; $expected"
 }
 
+# Makes the input of a program, from what a command prints.
+gather() { # COMMAND..
+    "$@" >"$scratch/blocks" 2>/dev/null || fail "the temporary folder cannot be written"
+}
+
 # Looks at the file of -o before anything is built. Of a link it takes the file that the link names.
 settle() { # INPUT..
     [ -n "$file" ] || return 0
@@ -60,8 +65,8 @@ run() { # PROGRAM INPUT MARK [ARGUMENT..]
     input=$2
     mark=$3
     shift 3
-    "$(product "$program")" "$@" <"$input" >"$scratch/text" 2>"$scratch/said"
-    case $(tail -n 1 "$scratch/text") in
+    { "$(product "$program")" "$@" <"$input" >"$scratch/text"; } 2>"$scratch/said"
+    case $(tail -n 1 "$scratch/text" 2>/dev/null) in
     *"$mark"*) ;;
     *) fail "$program: no whole text in the temporary folder; expected '$mark' in its last line$(sed -n '1s/^/: /p' "$scratch/said")" ;;
     esac

@@ -131,6 +131,14 @@ builds 1 "a source has changed" "$door" sheet example
 rm "$stand/change"
 builds 1 "a source changed during the last build" "$door" sheet example
 
+# with no stream open at all
+echo again >>"$checkout/crates/page/src/lib.rt"
+: >"$stand/log"
+"$door" sheet -o streams.svg example <&- >&- 2>&- 3>&-
+expect "with closed streams: status $?" [ $? -eq 0 ]
+expect "with closed streams it is another sheet, or built otherwise" eval 'cmp -s streams.svg "$page" && [ "$(wc -l <"$stand/log")" -eq 1 ] && [ -z "$(ls -A "$TMPDIR")" ]'
+builds 0 "built with closed streams" "$door" sheet example
+
 # a build that fails is an error, and is tried again
 echo wrong >>"$checkout/crates/text/src/lib.rt"
 touch "$stand/break"

@@ -13,7 +13,13 @@ same compare-different 1 "$juvrada" compare example - <changed
 same sheet-empty 0 "$juvrada" sheet <example
 refused "standard input: 241 bytes; $block" "$juvrada" sheet - <short
 refused "standard input: more than 242 bytes; $block" "$juvrada" sheet - < <(cat long long)
-refused "standard input: 0 bytes; $block" "$juvrada" sheet - <&-
+# closed, under each shell that sh may be: what they open takes the place of a closed stream in different ways
+for shell in sh bash dash; do
+  command -v "$shell" >/dev/null || continue
+  refused "standard input: 0 bytes; $block" timeout 20 "$shell" "$juvrada" sheet - <&-
+  same sheet-example 0 timeout 20 "$shell" "$juvrada" sheet example <&-
+  same sheet-example 0 timeout 20 "$shell" -c '"$@" 2>&-' "$shell" "$shell" "$juvrada" sheet example
+done
 refused "standard input: cannot be copied: Is a directory; $block" "$juvrada" sheet - <folder
 
 # ---- standard output and standard error
@@ -25,7 +31,7 @@ unwritable() {
     tried=$((tried + 1))
     case $how in
     full) "$@" 2>err >/dev/full ;;
-    closed) "$@" 2>err >&- ;;
+    closed) "$@" 2>err >&- 3>&- ;;
     esac
     got=$?
     [ "$got" -eq 2 ] && [ "$(said)" = "juvrada: standard output: cannot be written" ] || wrong "'$*', standard output $how: status $got; it said: $(said)"
@@ -41,10 +47,10 @@ unwritable "$juvrada" heights example 3
 unwritable "$juvrada" check
 unwritable "$juvrada" --help
 unwritable "$juvrada" --version
+unwritable bash "$juvrada" sheet
 # with -o nothing is written there
 "$juvrada" sheet -o page.svg example >&- 2>err
 expect "sheet -o wants a standard output" eval '[ $? -eq 0 ] && cmp -s page.svg "$here/expected/sheet-example.out"'
-same sheet-example 0 sh -c '"$0" sheet example 2>&-' "$juvrada"
 
 # a reader that goes is no error, and nothing is said
 for words in 'sheet example' 'heights example 3 4096' 'compare --svg example changed'; do
@@ -74,6 +80,7 @@ refused "no option '-x' $hint" "$juvrada" compare --svg example -x
 # what cannot be printed is escaped, so that an error is one line
 refused "no\\x0asuch\\x1b[1m\\x80\\\\\\x09: no such file; $block" "$juvrada" sheet $'no\nsuch\e[1m\200\\\t'
 refused "end\\x0a: no such file; $block" "$juvrada" sheet $'end\n'
+refused "\\\\x0a: no such file; $block" "$juvrada" sheet '\x0a'
 refused "no command 'a\\x0ab' $hint" "$juvrada" $'a\nb'
 refused "no option '-\\x07' $hint" "$juvrada" sheet $'-\a'
 refused "code '3\\x0a': expected a number from 0 to 13" "$juvrada" heights example $'3\n'
@@ -167,10 +174,12 @@ else
   apart=()
 fi
 
-# small COMMAND..: with `disk` of 16 kB, on which page.svg is a page of other bytes
+# small COMMAND..: with `disk` of 16 kB, on which page.svg is a page of other bytes; with full=yes nothing more has room there
+full=
 small() {
   # shellcheck disable=SC2016
-  "${apart[@]}" sh -c 'mount -t tmpfs -o size=16k none disk && echo other >disk/page.svg || exit 77
+  full=$full "${apart[@]}" sh -c 'mount -t tmpfs -o size=16k none disk && echo other >disk/page.svg || exit 77
+    [ -z "$full" ] || cat /dev/zero >disk/fill 2>/dev/null
     "$@"; got=$?; ls -A disk >listed; cp disk/page.svg now.svg; umount disk; exit "$got"' sh "$@"
 }
 
@@ -190,6 +199,12 @@ else
   refused "disk/page.svg: cannot be written" small "$juvrada" compare --svg -o disk/page.svg example changed
   expect "a page is written over on a full disk" [ "$(cat listed now.svg)" = $'page.svg\nother' ]
   refused "sheet: no whole text in the temporary folder; expected '</svg>' in its last line" small env TMPDIR=disk "$juvrada" sheet example
+  full=yes
+  refused "the temporary folder cannot be written" small env TMPDIR=disk "$juvrada" sheet
+  refused "example: cannot be copied: No space left on device; $block" small env TMPDIR=disk "$juvrada" sheet example
+  refused "standard input: cannot be copied: No space left on device; $block" small env TMPDIR=disk "$juvrada" compare - changed <example
+  refused "checklist: no whole text in the temporary folder; expected ' rows ' in its last line" small env TMPDIR=disk "$juvrada" check
+  full=
   refused "folder/page.svg: nothing can be written beside it" frozen folder "$juvrada" sheet -o folder/page.svg example
   same sheet-example 0 frozen "$root" "$juvrada" sheet example
   same check 0 frozen "$root" "$juvrada" check
