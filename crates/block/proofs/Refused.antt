@@ -22,7 +22,7 @@ unfoldable pub refusalOr : ℕ → Chosen → ℕ
 refusalOr next (AGenerator g) = next
 refusalOr next (Refused r) = refusalNumber r
 
-settledOr : ℕ → Settled → ℕ
+unfoldable pub settledOr : ℕ → Settled → ℕ
 settledOr next (KnownCode c) = next
 settledOr next (NoCode r) = refusalNumber r
 
@@ -38,7 +38,7 @@ unfolding checkCode codes
 code-checked next code = listed next codes code ∙ simp (leb·suc-suc code 13)
 
 -- ---- the block before it
-block-checked : (next : ℕ) (block : List ℕ) (code : ℕ) → settledOr next (settledOf block code) ≡ checkBlock (length block) (checkCode code next)
+pub block-checked : (next : ℕ) (block : List ℕ) (code : ℕ) → settledOr next (settledOf block code) ≡ checkBlock (length block) (checkCode code next)
 unfolding settledOf checkBlock settledOr
 block-checked next block code = go (eqb (length block) blockLength)
   where
