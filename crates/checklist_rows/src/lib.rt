@@ -1,6 +1,5 @@
 // Four rows of the checklist: the empty program, every shape byte, both edges, and slew at 1 and at 255. A row's trials are numbered; what each compares is a function of its
 // number.
-mod edges;
 mod empty;
 mod shapes;
 mod slew;
@@ -9,6 +8,8 @@ ghost use mathlib.Core.Path.{_≡_};
 ghost use Rattle.trials.specs.Trials.{rowOf, numbered};
 ghost use Rattle.trials.specs.Noted.{notedAll};
 ghost use Rattle.checklist_rows.specs.Rows.{trialOf, emptyRow, shapesRow, edgesRow, slewRow};
+use edge_trials::beyond_trial;
+use edge_trials::known_trial;
 use trials::Row;
 use trials::Trial;
 use trials::note;
@@ -31,8 +32,8 @@ fn trial(kind: Kind, n: u16) -> Trial
         Kind::Empty => empty::empty_trial(n),
         Kind::Unnamed => shapes::unnamed_trial(n),
         Kind::Named => shapes::named_trial(n),
-        Kind::Known => edges::known_trial(n),
-        Kind::Beyond => edges::beyond_trial(n),
+        Kind::Known => known_trial(n),
+        Kind::Beyond => beyond_trial(n),
         Kind::Slew => slew::slew_trial(n),
     }
 }
