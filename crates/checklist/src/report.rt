@@ -1,7 +1,8 @@
 // What the program writes.
-use crate::row::Input;
-use crate::row::Row;
 use libc::STDOUT_FILENO;
+use trials::Input;
+use trials::Row;
+use trials::passes;
 
 pub fn print(text: &[u8]) {
     io::write_all(STDOUT_FILENO, text);
@@ -18,21 +19,22 @@ fn print_input(input: Input) {
 }
 
 fn print_inputs(row: Row) {
+    let inputs = row.inputs;
     if 0 < row.failed {
-        print_input(row.first);
+        print_input(inputs[0]);
     }
     if 1 < row.failed {
-        print_input(row.second);
+        print_input(inputs[1]);
     }
     if 2 < row.failed {
-        print_input(row.third);
+        print_input(inputs[2]);
     }
 }
 
 // The row's line and, where it fails, the first inputs that fail. The answer is how many rows fail: this one, or none.
 pub fn print_row(name: &[u8], row: Row) -> u64 {
     print(name);
-    if row.passes() {
+    if passes(row) {
         print(b"pass     ");
     } else {
         print(b"fail     ");
@@ -40,7 +42,7 @@ pub fn print_row(name: &[u8], row: Row) -> u64 {
     io::print_decimal(STDOUT_FILENO, row.tried as u64);
     print(b"\n");
     print_inputs(row);
-    if row.passes() {
+    if passes(row) {
         return 0;
     }
     1

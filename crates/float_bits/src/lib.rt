@@ -39,16 +39,21 @@ pub fn flag(b: bool) -> u32
     0
 }
 
-// Whether the words are the bits of two answers that agree. A number that is no f32's bits is small, and agrees with itself alone.
-pub fn agreeing(a: u32, b: u32) -> bool
-    ensures { λ r. ⌜ r ≡ agree (bits a) (bits b) ⌝ }
+// Equal numbers agree, two zeros among them, and so do two NaNs.
+pub fn agrees(x: f32, y: f32) -> bool
+    ensures { λ r. ⌜ r ≡ agree x y ⌝ }
 {
-    let x = float_of(a);
-    let y = float_of(b);
     if x != x {
         return y != y;
     }
     x == y
+}
+
+// Whether the words are the bits of two answers that agree. A number that is no f32's bits is small, and agrees with itself alone.
+pub fn agreeing(a: u32, b: u32) -> bool
+    ensures { λ r. ⌜ r ≡ agree (bits a) (bits b) ⌝ }
+{
+    agrees(float_of(a), float_of(b))
 }
 
 pub fn low_word(n: u64) -> u32

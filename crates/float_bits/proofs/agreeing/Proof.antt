@@ -1,5 +1,4 @@
 -- `agreeing` is `agree` of the two words' floats. Assumes nothing.
-use Rattle.float_bits.proofs.Agreement.{nan-agrees, number-agrees}
 use borrow.Author.Needs.{needs}
 use Rattle.float_bits.proofs.agreeing.Statement.{statement}
 use Rattle.float_bits.proofs.agreeing.Tie as tie
@@ -10,5 +9,5 @@ agreeing-spec =
     (tie.spec
     (λ c κs. search needs)
     (λ c κs. search needs)
-    (λ c. nan-agrees (c .before .before .float-of .ensures) (c .before .float-of2 .ensures) (c .if1 .taken))
-    (λ c. number-agrees (c .before .before .float-of .ensures) (c .before .float-of2 .ensures) (c .if1 .left)))
+    (λ c κs. search needs)
+    (λ c. simp (c .agrees .ensures, c .before .float-of2 .ensures, c .before .before .float-of .ensures)))

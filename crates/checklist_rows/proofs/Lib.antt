@@ -1,0 +1,2 @@
+-- What the loops need: one position more.
+pub mod Positions

@@ -1,0 +1,2 @@
+-- Heights at the edges, and positions beyond them.
+pub mod Edges

@@ -1,0 +1,2 @@
+-- What the loop over the list's bytes needs.
+pub mod Bytes

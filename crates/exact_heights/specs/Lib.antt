@@ -1,0 +1,2 @@
+-- The row of the list of exact heights.
+pub mod Exact

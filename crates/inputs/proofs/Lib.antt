@@ -1,0 +1,2 @@
+-- The turns of the loop that puts an input's bytes.
+pub mod Placed

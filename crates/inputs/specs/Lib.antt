@@ -1,0 +1,2 @@
+-- The block of an input, and its height.
+pub mod Inputs

@@ -1,0 +1,2 @@
+-- The lines of a list of numbers.
+pub mod Lines
