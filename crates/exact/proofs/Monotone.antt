@@ -45,7 +45,7 @@ unsigned-finite (inf s) u = absurd u
 unsigned-finite (fin s m e) u = tt
 
 -- one that has a value with no sign
-of-value : (x : Float) (a c : ℕ) → HasValue x false a c → T (unsigned x)
+pub of-value : (x : Float) (a c : ℕ) → HasValue x false a c → T (unsigned x)
 of-value nan a c v = absurd v
 of-value (inf s) a c v = absurd v
 of-value (fin true m e) a c v = absurd (true≢false (v .0))

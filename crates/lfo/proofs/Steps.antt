@@ -56,7 +56,7 @@ found phase (suc n) k m h l t = go (le phase (placeOf (suc k))) refl (λ (i : su
         }
 
 -- ---- tests of numbers
-le-nlt : (x y : Float) → T (finite x) → T (finite y) → T (le x y) → T (not (lt y x))
+pub le-nlt : (x y : Float) → T (finite x) → T (finite y) → T (le x y) → T (not (lt y x))
 le-nlt x y X Y h = go (lt y x) (compared y x Y X .below .passed)
   where
     go : (b : Bool) → (T b → cross (value y) (value x) < cross (value x) (value y)) → T (not b)

@@ -1,5 +1,8 @@
 // The slew walk of an LFO.
 ghost use mathlib.Core.Path.{_≡_};
+ghost use Rattle.exact.specs.Binary32.{_⊗_};
+ghost use Rattle.curve.specs.Curve.{clampUnitOf};
+ghost use Rattle.lfo_shapes.specs.Formula.{shapeAtOf};
 ghost use Rattle.lfo.specs.Formula.{placeOf, movedOf, walkedOf, unslewedOf, slewedOf, lfoHeightOf, phaseOf};
 use curve::Height;
 use curve::clamp_unit;
@@ -75,6 +78,14 @@ pub fn unslewed_height(lfo: Lfo, t: f32) -> Height
 {
     let shape = lfo.shape;
     drawn(shape_at(shape, phase(lfo, t)))
+}
+
+// The same at a position from 0 to 1, which the samples of a strip have, without its steps.
+pub fn unslewed_sample(lfo: Lfo, t: f32) -> f32
+    ensures { λ r. ⌜ r ≡ clampUnitOf (shapeAtOf (lfo .shape) (t ⊗ lfo .turns)) ⌝ }
+{
+    let shape = lfo.shape;
+    clamp_unit(shape_at(shape, t * lfo.turns))
 }
 
 // The height of an LFO with slew.

@@ -2,6 +2,7 @@
 pub mod Lengths
 pub mod Laws
 pub mod Filling
+pub mod SamplePositions
 pub mod Slew
 pub mod Samples
 pub mod Examples

@@ -2,17 +2,18 @@
 use mathlib.Core.Path.{_≡_}
 use mathlib.Core.Bool.{true, false}
 use lib.Ieee.{Float, le}
-use Rattle.exact.specs.Binary32.{zero₃₂}
-use Rattle.curve.specs.Curve.{drawnOf}
+use Rattle.exact.specs.Binary32.{_⊗_, zero₃₂}
+use Rattle.curve.specs.Curve.{clampUnitOf, positionOf, drawnOf}
 use Rattle.settings.specs.declared.Lfo.{Lfo}
-use Rattle.lfo.specs.Formula.{unslewedOf, slewedOf, lfoHeightOf}
+use Rattle.lfo_shapes.specs.Formula.{shapeAtOf}
+use Rattle.lfo.specs.Formula.{slewedOf, lfoHeightOf}
 use Rattle.generator.specs.declared.Shape.the-variants.{Lfo as AnLfo}
 use Rattle.generator.specs.Heights.{heightOf}
 
 module _ (l : Lfo) (t : Float) where
-  pub without-slew : le (l .slew) zero₃₂ ≡ true → unslewedOf l t ≡ heightOf (AnLfo l) t
-  unfolding heightOf lfoHeightOf
-  without-slew h = simp h
+  pub without-slew : le (l .slew) zero₃₂ ≡ true → positionOf t ≡ t → clampUnitOf (shapeAtOf (l .shape) (t ⊗ l .turns)) ≡ heightOf (AnLfo l) t .height
+  unfolding heightOf lfoHeightOf drawnOf
+  without-slew h p = simp (h, p)
 
   pub with-slew : le (l .slew) zero₃₂ ≡ false → slewedOf l t ≡ heightOf (AnLfo l) t
   unfolding heightOf lfoHeightOf

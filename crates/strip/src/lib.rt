@@ -12,7 +12,7 @@ use fade::fade_height;
 use filter::filter_height;
 use generator::Shape;
 use lfo::slewed_height;
-use lfo::unslewed_height;
+use lfo::unslewed_sample;
 use math::from_u16;
 use noise::noise_height;
 use oscillator::oscillator_height;
@@ -150,7 +150,7 @@ fn fill_unslewed(l: Lfo, out: &mut [f32]) -> u32
     let last = last_of(n);
     let mut i: usize = 0;
     while i < n {
-        out[i] = unslewed_height(l, sample_position(i as u16, last)).height;
+        out[i] = unslewed_sample(l, sample_position(i as u16, last));
         i += 1;
     }
     0

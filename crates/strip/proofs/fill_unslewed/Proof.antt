@@ -8,7 +8,8 @@ use Rattle.generator.specs.declared.Shape.the-variants.{Lfo as AnLfo}
 use Rattle.lists.specs.Written.{written}
 use Rattle.strip.specs.Strip.{filledOf}
 use Rattle.strip.proofs.Slew.{without-slew, without-steps}
-use Rattle.strip.proofs.Filling.{at-position, filled-next, stepless, filled-whole}
+use Rattle.strip.proofs.SamplePositions.{sample-position}
+use Rattle.strip.proofs.Filling.{level-next, stepless, filled-whole}
 use Rattle.strip.proofs.fill_unslewed.Statement.{statement}
 use Rattle.strip.proofs.fill_unslewed.Tie as tie
 
@@ -27,8 +28,9 @@ loop-again c =
     let l = c .before .before .before in
     let start = l .before .before .before in
     let s = AnLfo (start .args .l) in
-    let w = at-position s _ _ _ (l .before .last-of .ensures) (c .before .sample-position .ensures) (c .unslewed-height .ensures ∙ without-slew _ _ (start .pre .0)) in
-    (simp length-set (l .loop .inv .0), search needs, filled-next s _ _ w _ (l .loop .inv .2))
+    let last = l .before .last-of .ensures in
+    let position = sample-position _ _ _ (start .pre .1 .0) (start .pre .1 .1) (c .before .before .loop-test .taken) last (c .before .sample-position .ensures) in
+    (simp length-set (l .loop .inv .0), search needs, level-next s _ _ _ last (c .before .sample-position .ensures) (c .unslewed-sample .ensures ∙ without-slew _ _ (start .pre .0) position) _ (l .loop .inv .2))
 
 returns : tie.Need-returns Inv-loop μ-loop
 returns c =
