@@ -44,18 +44,27 @@ fn tap_height(at: f32, tall: f32, t: f32, height: f32) -> f32
     height
 }
 
-// The largest of the taps' heights, from 0 on.
+// The largest of the taps' heights, from 0 on. The taps are written out, so that one that is not used is not read.
 fn taps_level(taps: Taps, t: f32) -> f32
     ensures { λ r. ⌜ r ≡ tapsLevelOf taps t (usedOf taps) ⌝ }
 {
-    let count = at_most(taps.used, MAX_TAPS);
-    let mut height: f32 = 0.0;
-    let mut i: usize = 0;
-    while i < count {
-        height = tap_height(taps.at[i], taps.tall[i], t, height);
-        i += 1;
+    let used = taps.used;
+    if used < 1 {
+        return 0.0;
     }
-    height
+    let first = tap_height(taps.at[0], taps.tall[0], t, 0.0);
+    if used < 2 {
+        return first;
+    }
+    let second = tap_height(taps.at[1], taps.tall[1], t, first);
+    if used < 3 {
+        return second;
+    }
+    let third = tap_height(taps.at[2], taps.tall[2], t, second);
+    if used < 4 {
+        return third;
+    }
+    tap_height(taps.at[3], taps.tall[3], t, third)
 }
 
 // The height of an impulse train.

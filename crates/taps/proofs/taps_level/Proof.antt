@@ -1,44 +1,42 @@
--- `taps_level` is `tapsLevelOf` of all the taps that are used. The loop's invariant: the height so far is that of the first i taps. Assumes nothing.
-use Prim.Native.Nat.{_-_, _≤_}
-use mathlib.Core.Path.{_≡_, refl, ap, _∙_}
+-- `taps_level` is `tapsLevelOf` of all the taps that are used: a return for each number of them. Assumes nothing.
+use native.Mathlib.Omega.{arith}
 use borrow.Author.Needs.{needs}
-use native.Mathlib.Numerals.{add-one}
-use Rattle.taps.specs.Formula.{usedOf, tapsLevelOf}
-use Rattle.taps.proofs.UsedTaps.{all-used}
+use Rattle.taps.specs.Formula.{tapsLevelOf}
+use Rattle.taps.proofs.UsedTaps.{just, all-four}
 use Rattle.taps.proofs.taps_level.Statement.{statement}
 use Rattle.taps.proofs.taps_level.Tie as tie
 
-abbrev Inv-loop : tie.InvT-loop
-Inv-loop t taps count height₀ i₀ height i = (i ≤ count) × (count ≤ 4) × (count ≡ usedOf taps) × (height ≡ tapsLevelOf taps t i)
-
-abbrev μ-loop : tie.MeasureT-loop
-μ-loop t taps count height₀ i₀ height i = count - i
-
-loop-holds : tie.Need-loop-holds Inv-loop μ-loop
+returns : tie.Need-returns
 unfolding tapsLevelOf
-loop-holds c = (search needs, c .at-most .ensures .2, c .at-most .ensures .0, refl)
+returns c = simp (just 0 (omega arith) (omega arith) (c .if1 .taken))
 
-loop-again : tie.Need-loop-again Inv-loop μ-loop
+returns-2 : tie.Need-returns-2
 unfolding tapsLevelOf
-loop-again c = (search needs, search needs, c .before .before .before .before .loop .inv .2, simp (add-one, c .tap-height .ensures, c .before .before .before .before .loop .inv .3))
+returns-2 c = simp (just 1 (omega arith) (c .before .before .before .before .if1 .left) (c .if2 .taken), c .before .tap-height .ensures)
 
-returns : tie.Need-returns Inv-loop μ-loop
-returns c = c .before .loop .inv .3 ∙ ap (tapsLevelOf (c .before .before .before .args .t1) (c .before .before .before .args .t)) (all-used (c .before .loop .inv .0) (c .loop-test .left) (c .before .loop .inv .2))
+returns-3 : tie.Need-returns-3
+unfolding tapsLevelOf
+returns-3 c = simp (just 2 (omega arith) (c .before .before .before .before .if2 .left) (c .if3 .taken), c .before .tap-height2 .ensures, c .before .before .before .before .before .tap-height .ensures)
+
+returns-4 : tie.Need-returns-4
+unfolding tapsLevelOf
+returns-4 c = simp (just 3 (omega arith) (c .before .before .before .before .if3 .left) (c .if4 .taken), c .before .tap-height3 .ensures, c .before .before .before .before .before .tap-height2 .ensures, c .before .before .before .before .before .before .before .before .before .tap-height .ensures)
+
+returns-5 : tie.Need-returns-5
+unfolding tapsLevelOf
+returns-5 c =
+    simp (all-four (c .before .before .before .if4 .left), c .tap-height4 .ensures, c .before .before .before .before .tap-height3 .ensures, c .before .before .before .before .before .before .before .before .tap-height2 .ensures, c .before .before .before .before .before .before .before .before .before .before .before .before .tap-height .ensures)
 
 pub taps-level-spec : {M : Type 1} → statement M
 taps-level-spec =
     tie.close
     (tie.spec
-    Inv-loop
-    μ-loop
-    (λ c κs. search needs)
-    loop-holds
-    (λ c. search needs)
-    (λ c. search needs)
-    (λ c. search needs)
-    (λ c. search needs)
-    (λ c κs. search needs)
-    (λ c. search needs)
-    (λ c. search needs)
-    loop-again
-    returns)
+    returns
+    (λ c. search needs) (λ c. search needs) (λ c κs. search needs)
+    returns-2
+    (λ c. search needs) (λ c. search needs) (λ c κs. search needs)
+    returns-3
+    (λ c. search needs) (λ c. search needs) (λ c κs. search needs)
+    returns-4
+    (λ c. search needs) (λ c. search needs) (λ c κs. search needs)
+    returns-5)
