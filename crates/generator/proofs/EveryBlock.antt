@@ -1,5 +1,5 @@
--- WHAT IS PROMISED OF EVERY BLOCK: whatever the bytes, the shape that each builder makes of them has the ranges that `every-shape` asks for, so that all is promised of its height, at every
--- f32. An LFO is slewed just where its slew byte is not 0. Assumes nothing.
+-- WHATEVER THE BYTES, the shape that each builder makes of them has the ranges that `every-shape` asks for; and an LFO is slewed just where its slew byte is not 0. What is promised of a block's
+-- heights follows in crate block (EveryCode). Assumes nothing.
 use mathlib.Core.Bool.{Bool, not}
 use Prim.Native.Nat.{ℕ, _<_}
 use lib.Dec.{T}
