@@ -2,7 +2,7 @@
 use curve::Height;
 use float_bits::flag;
 use float_bits::word_of;
-use generator::Generator;
+use generator::Gates;
 use generator::Marks;
 use generator::Scale;
 use generator::Shape;
@@ -106,8 +106,7 @@ fn only_setting(x: f32, i: u32) -> Answer {
     Answer::Nothing
 }
 
-pub fn setting(g: Generator, i: u32) -> Answer {
-    let shape = g.shape;
+pub fn setting(shape: Shape, i: u32) -> Answer {
     match shape {
         Shape::Envelope(e) => envelope_setting(e, i),
         Shape::Fade(f) => only_setting(f.end, i),
@@ -161,12 +160,11 @@ pub fn scale(scale: Scale, i: u32) -> Answer {
 }
 
 // ---- gates
-pub fn gate_count(time: u8) -> Answer {
-    Answer::Word((generator::arpeggiator_gates(time).count % 256) as u32)
+pub fn gate_count(gates: Gates) -> Answer {
+    Answer::Word((gates.count % 256) as u32)
 }
 
-pub fn gate_start(time: u8, i: u32) -> Answer {
-    let gates = generator::arpeggiator_gates(time);
+pub fn gate_start(gates: Gates, i: u32) -> Answer {
     let n = i as usize;
     if n < gates.count && n < generator::GATES_DRAWN {
         return of_float(gates.places[n].start);
@@ -174,8 +172,7 @@ pub fn gate_start(time: u8, i: u32) -> Answer {
     Answer::Nothing
 }
 
-pub fn gate_end(time: u8, i: u32) -> Answer {
-    let gates = generator::arpeggiator_gates(time);
+pub fn gate_end(gates: Gates, i: u32) -> Answer {
     let n = i as usize;
     if n < gates.count && n < generator::GATES_DRAWN {
         return of_float(gates.places[n].end);
