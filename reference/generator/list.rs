@@ -3,6 +3,9 @@
 //!     G CODE BYTES    the generator that the lines up to the next G or T speak of: its code, and the bytes it reads as one number, in the
 //!                     order of `READ`; code a0 stands for the gates, with byte 160
 //!     T WORD .. USED  the taps that they speak of: four positions, four heights, and how many are used
+//!     B SEED MOST     a whole block, drawn from a seed, of bytes up to MOST: `drawn_block` says how
+//!     P CODE          the generator that the lines up to the next G, T or P speak of: that of the code and the last block; code a0 stands for
+//!                     the gates
 //!     S WORD ..       its settings
 //!     H T WORD STEPS  its height at position T, and the steps that the height took
 //!     N COUNT         how many marks it has, or gates
@@ -14,7 +17,7 @@
 //!     A FLAG          whether it is anchored
 //!
 //! A WORD is an f32's bits, a NaN being 7fc00000, or a flag, 0 or 1, or an enum's number, by the order of its declaration. The bytes
-//! of the block that the code doesn't read are random.
+//! of a G's block that the code doesn't read are random.
 
 use crate::answers::{
     POSITIONS, READ, Setting, Taps, block, build, joins, kind, neighbours, place, scale, settings, slewed, steps_of,
@@ -22,6 +25,7 @@ use crate::answers::{
 };
 use crate::generator::{Generator, arpeggiator_gates};
 use crate::random::Random;
+use crate::stand_in::Program;
 
 /// The line that names a generator.
 fn select(code: usize, bytes: &[u8]) {
@@ -151,12 +155,10 @@ fn drawn(random: &mut Random) -> Vec<(usize, Vec<u8>)> {
     all
 }
 
-fn print_gates(random: &mut Random, open: u8) {
-    println!("G a0 {open:x}");
-    let program = block(random, &[160], &[open]);
-    print('N', [arpeggiator_gates(&program).count() as u32]);
-    print('M', arpeggiator_gates(&program).map(|gate| word(gate.start())));
-    print('E', arpeggiator_gates(&program).map(|gate| word(gate.end())));
+fn print_gates(program: &Program) {
+    print('N', [arpeggiator_gates(program).count() as u32]);
+    print('M', arpeggiator_gates(program).map(|gate| word(gate.start())));
+    print('E', arpeggiator_gates(program).map(|gate| word(gate.end())));
 }
 
 fn print_taps(random: &mut Random, used: u32) {
@@ -172,6 +174,33 @@ fn print_taps(random: &mut Random, used: u32) {
     positions.extend(taps.positions());
     positions.extend(random_positions(random, 4));
     print_heights(&generator, &positions, |_| 0);
+}
+
+/// The block of a seed: with s the seed at first, s becomes s * 48271 modulo 2^31 - 1 for each byte, and the byte is the highest eight of the
+/// 31 bits of s, modulo MOST + 1.
+fn drawn_block(seed: u32, most: u8) -> Program {
+    let mut s = u64::from(seed);
+    Program(std::array::from_fn(|_| {
+        s = s * 48271 % 0x7fff_ffff;
+        ((s >> 23) % (u64::from(most) + 1)) as u8
+    }))
+}
+
+/// Every code of a drawn block, and its gates. Nothing but the block tells the other side which bytes a code reads.
+fn print_block(random: &mut Random, most: u8) {
+    let seed = 1 + random.below(0x7fff_fffe) as u32;
+    print('B', [seed, u32::from(most)]);
+    let program = drawn_block(seed, most);
+    for code in 0..READ.len() {
+        print('P', [code as u32]);
+        let generator = build(code, &program);
+        print_settings(code, &generator);
+        print_about(&generator);
+        let positions = random_positions(random, 2);
+        print_heights(&generator, &positions, |t| steps_of(code, &program, &generator, t));
+    }
+    print('P', [0xa0]);
+    print_gates(&program);
 }
 
 pub fn run() {
@@ -204,6 +233,12 @@ pub fn run() {
     }
     println!("# Gates.");
     for open in 0..=255 {
-        print_gates(random, open);
+        println!("G a0 {open:x}");
+        print_gates(&block(random, &[160], &[open]));
+    }
+    println!("# Whole blocks: settings, marks, rest, scale, anchored, and heights with their steps, of every code; and the gates.");
+    // Any bytes; those that name shapes, sources and poles; switches.
+    for most in [255, 255, 255, 255, 255, 255, 255, 255, 6, 6, 6, 6, 6, 6, 6, 6, 1, 1, 1, 1] {
+        print_block(random, most);
     }
 }

@@ -1,2 +1,3 @@
--- The turns of the loop that puts an input's bytes.
+-- The turns of the loop that puts an input's bytes; the definitions, computed.
 pub mod Placed
+pub mod Examples

@@ -3,8 +3,7 @@ use curve::Height;
 use float_bits::flag;
 use float_bits::word_of;
 use gates::GATES_DRAWN;
-use gates::arpeggiator_gates;
-use generator::Generator;
+use gates::Gates;
 use generator::Scale;
 use generator::Shape;
 use generator::scale_number;
@@ -109,8 +108,7 @@ fn only_setting(x: f32, i: u32) -> Answer {
     Answer::Nothing
 }
 
-pub fn setting(g: Generator, i: u32) -> Answer {
-    let shape = g.shape;
+pub fn setting(shape: Shape, i: u32) -> Answer {
     match shape {
         Shape::Envelope(e) => envelope_setting(e, i),
         Shape::Fade(f) => only_setting(f.end, i),
@@ -164,12 +162,11 @@ pub fn scale(scale: Scale, i: u32) -> Answer {
 }
 
 // ---- gates
-pub fn gate_count(time: u8) -> Answer {
-    Answer::Word((arpeggiator_gates(time).count % 256) as u32)
+pub fn gate_count(gates: Gates) -> Answer {
+    Answer::Word((gates.count % 256) as u32)
 }
 
-pub fn gate_start(time: u8, i: u32) -> Answer {
-    let gates = arpeggiator_gates(time);
+pub fn gate_start(gates: Gates, i: u32) -> Answer {
     let n = i as usize;
     if n < gates.count && n < GATES_DRAWN {
         return of_float(gates.places[n].start);
@@ -177,8 +174,7 @@ pub fn gate_start(time: u8, i: u32) -> Answer {
     Answer::Nothing
 }
 
-pub fn gate_end(time: u8, i: u32) -> Answer {
-    let gates = arpeggiator_gates(time);
+pub fn gate_end(gates: Gates, i: u32) -> Answer {
     let n = i as usize;
     if n < gates.count && n < GATES_DRAWN {
         return of_float(gates.places[n].end);

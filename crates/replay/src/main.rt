@@ -6,6 +6,7 @@ mod build;
 mod limits;
 mod replay;
 mod report;
+mod whole;
 
 ghost use mathlib.Core.Path.{_≡_};
 ghost use lib.ListN.{length};

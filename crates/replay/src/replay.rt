@@ -1,12 +1,20 @@
-// The list, read a byte at a time.
+// The list, a line after the other.
 use crate::answer;
 use crate::answer::Answer;
 use crate::build::built;
 use crate::report;
+use crate::whole;
 use float_bits::agreeing;
 use float_bits::float_of;
 use float_bits::low_byte;
 use float_bits::low_word;
+use lists::at_most;
+use number_lines::Line;
+use number_lines::MOST;
+use number_lines::end_line;
+use number_lines::is_blank;
+use number_lines::no_line;
+use number_lines::read_byte;
 use taps::MAX_TAPS;
 use taps::Taps;
 
@@ -19,6 +27,7 @@ pub struct Tally {
     pub others: u32,
     pub gates: u32,
     pub taps: u32,
+    pub blocks: u32,
     pub different: u32,
     pub unanswered: u32,
 }
@@ -29,6 +38,10 @@ pub struct Place {
     pub code: u64,
     pub bytes: u64,
     pub taps: Taps,
+    // Whether the generator is that of the code and a whole block, and the block's seed and its largest byte.
+    pub whole: bool,
+    pub seed: u32,
+    pub most: u8,
     // The line's letter, and how many of the line's numbers stand before this one.
     pub letter: u8,
     pub index: u32,
@@ -38,27 +51,14 @@ pub struct Place {
 
 pub struct Reading {
     pub place: Place,
-    // Whether the reading is within a comment, or within a number, and the number so far.
-    pub comment: bool,
-    pub digits: bool,
-    pub value: u64,
     pub tally: Tally,
 }
 
 // The code that stands for the gates.
-const GATES: u64 = 0xa0;
+pub const GATES: u64 = 0xa0;
 
 // The code of what a line T begins.
 const TAPS: u64 = 0xb0;
-
-// The value of a hexadecimal digit in lower case, and 16 for any other byte.
-fn digit(b: u8) -> u64 {
-    match b {
-        48..=57 => (b - 48) as u64,
-        97..=102 => (b - 87) as u64,
-        _ => 16,
-    }
-}
 
 // One more. A list holds fewer than 2^32 of anything.
 fn more(n: u32) -> u32 {
@@ -66,12 +66,12 @@ fn more(n: u32) -> u32 {
 }
 
 fn gate_answer(place: Place) -> Answer {
-    let time = low_byte(place.bytes);
+    let gates = generator::arpeggiator_gates(low_byte(place.bytes));
     let letter = place.letter;
     match letter {
-        b'N' => answer::gate_count(time),
-        b'M' => answer::gate_start(time, place.index),
-        b'E' => answer::gate_end(time, place.index),
+        b'N' => answer::gate_count(gates),
+        b'M' => answer::gate_start(gates, place.index),
+        b'E' => answer::gate_end(gates, place.index),
         _ => Answer::Nothing,
     }
 }
@@ -96,6 +96,9 @@ fn tap_answer(place: Place) -> Answer {
 
 // What the crates answer there.
 fn answered(place: Place) -> Answer {
+    if place.whole {
+        return whole::answered(place);
+    }
     if place.code == GATES {
         return gate_answer(place);
     }
@@ -104,8 +107,9 @@ fn answered(place: Place) -> Answer {
     }
     let g = built(low_byte(place.code), place.bytes);
     let letter = place.letter;
+    let shape = g.shape;
     match letter {
-        b'S' => answer::setting(g, place.index),
+        b'S' => answer::setting(shape, place.index),
         b'H' => answer::height(g.at(float_of(low_word(place.position))), place.index),
         b'N' => answer::mark_count(g.marks()),
         b'M' => answer::mark_at(g.marks(), place.index),
@@ -119,6 +123,10 @@ fn answered(place: Place) -> Answer {
 
 fn counted(tally: Tally, place: Place) -> Tally {
     let mut next = tally;
+    if place.whole {
+        next.blocks = more(next.blocks);
+        return next;
+    }
     if place.code == GATES {
         next.gates = more(next.gates);
         return next;
@@ -173,6 +181,50 @@ fn tapped(taps: Taps, index: u32, value: u64) -> Taps {
     next
 }
 
+// The place after a number of a line that says what the others are about: G, T, B or P.
+fn told(place: Place, value: u64) -> Place {
+    let mut next = place;
+    let letter = place.letter;
+    let index = place.index;
+    match letter {
+        b'G' => {
+            next.whole = false;
+            if index == 0 {
+                next.code = value;
+            } else {
+                next.bytes = value;
+            }
+        }
+        b'T' => {
+            next.whole = false;
+            next.code = TAPS;
+            let taps = tapped(place.taps, index, value);
+            next.taps = taps;
+        }
+        b'B' => {
+            if index == 0 {
+                next.seed = low_word(value);
+            } else {
+                next.most = low_byte(value);
+            }
+        }
+        _ => {
+            next.whole = true;
+            next.code = value;
+        }
+    }
+    next
+}
+
+// Whether a number says what the others are about: each of G, T, B and P does, and the first of H.
+fn tells(place: Place) -> bool {
+    let letter = place.letter;
+    match letter {
+        b'G' | b'T' | b'B' | b'P' => true,
+        _ => false,
+    }
+}
+
 impl Reading {
     fn start() -> Reading {
         let taps = Taps {
@@ -184,6 +236,9 @@ impl Reading {
             code: 0,
             bytes: 0,
             taps,
+            whole: false,
+            seed: 0,
+            most: 0,
             letter: 0,
             index: 0,
             position: 0,
@@ -196,33 +251,20 @@ impl Reading {
             others: 0,
             gates: 0,
             taps: 0,
+            blocks: 0,
             different: 0,
             unanswered: 0,
         };
-        Reading {
-            place,
-            comment: false,
-            digits: false,
-            value: 0,
-            tally,
-        }
+        Reading { place, tally }
     }
 
-    // After a whole number. The numbers of G and T, and the first of H, say what the others are about.
-    fn number(self) -> Reading {
+    // After a number.
+    fn number(self, value: u64) -> Reading {
         let mut next = self;
         let mut place = self.place;
-        let value = self.value;
-        if place.letter == b'G' && place.index == 0 {
+        if tells(place) {
             report::print_number(value);
-            place.code = value;
-        } else if place.letter == b'G' {
-            report::print_number(value);
-            place.bytes = value;
-        } else if place.letter == b'T' {
-            report::print_number(value);
-            place.code = TAPS;
-            place.taps = tapped(place.taps, place.index, value);
+            place = told(place, value);
         } else if place.letter == b'H' && place.index == 0 {
             report::print_number(value);
             place.position = value;
@@ -231,62 +273,60 @@ impl Reading {
         }
         place.index = more(place.index);
         next.place = place;
-        next.digits = false;
-        next.value = 0;
         next
     }
 
-    // After a byte that is no digit. What is printed has the list's lines, without its comments.
-    fn separator(self, b: u8) -> Reading {
+    // After a line that is wrong, which the list has not: it counts as one number that is not answered.
+    fn wrong_line(self) -> Reading {
+        report::print_wrong_line();
+        let mut next = self;
+        let mut tally = self.tally;
+        tally.unanswered = more(tally.unanswered);
+        next.tally = tally;
+        next
+    }
+
+    // After a line.
+    fn line(self, line: Line) -> Reading {
+        if is_blank(line) {
+            return self;
+        }
+        if line.wrong {
+            return self.wrong_line();
+        }
+        report::print_byte(line.letter);
         let mut next = self;
         let mut place = self.place;
-        match b {
-            b'#' => next.comment = true,
-            b'\n' => {
-                if !self.comment {
-                    report::print_byte(b);
-                }
-                next.comment = false;
-            }
-            65..=90 => {
-                if !self.comment {
-                    report::print_byte(b);
-                }
-                place.letter = b;
-                place.index = 0;
-                place.position = 0;
-            }
-            _ => {}
-        }
+        place.letter = line.letter;
+        place.index = 0;
+        place.position = 0;
         next.place = place;
+        let count = at_most(line.count, MOST);
+        let mut i: usize = 0;
+        while i < count {
+            next = next.number(line.numbers[i]);
+            i += 1;
+        }
+        report::print_byte(b'\n');
         next
-    }
-
-    fn step(self, b: u8) -> Reading {
-        if self.comment {
-            return self.separator(b);
-        }
-        let d = digit(b);
-        if d < 16 {
-            let mut next = self;
-            next.digits = true;
-            next.value = self.value % 0x1000_0000_0000_0000 * 16 + d;
-            return next;
-        }
-        if self.digits {
-            return self.number().separator(b);
-        }
-        self.separator(b)
     }
 }
 
-// The list ends with a line end, so no number is left.
+// A last line with no end is a line too.
 pub fn replay(list: &[u8]) -> Tally {
     let mut state = Reading::start();
+    let mut line = no_line();
     let mut i = 0;
     while i < list.len() {
-        state = state.step(list[i]);
+        let b = list[i];
+        if b == b'\n' {
+            state = state.line(end_line(line));
+            line = no_line();
+        } else {
+            line = read_byte(line, b);
+        }
         i += 1;
     }
+    state = state.line(end_line(line));
     state.tally
 }

@@ -22,6 +22,10 @@ pub fn print_unanswered(expected: u32) {
     print_expected(expected);
 }
 
+pub fn print_wrong_line() {
+    io::write_all(STDOUT_FILENO, b"wrong line\n");
+}
+
 pub fn print_count(label: &[u8], n: u32) {
     io::write_all(STDOUT_FILENO, label);
     io::print_decimal(STDOUT_FILENO, n as u64);
@@ -36,6 +40,7 @@ pub fn print_tally(tally: Tally) {
     print_count(b"rest, scale, anchored ", tally.others);
     print_count(b"gates ", tally.gates);
     print_count(b"taps ", tally.taps);
+    print_count(b"blocks ", tally.blocks);
     print_count(b"unanswered ", tally.unanswered);
     print_count(b"different ", tally.different);
 }

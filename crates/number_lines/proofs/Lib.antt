@@ -1,0 +1,2 @@
+-- The definitions, computed.
+pub mod Examples

@@ -1,0 +1,2 @@
+-- What the loop needs: one number more.
+pub mod Numbers

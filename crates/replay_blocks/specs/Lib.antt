@@ -1,0 +1,2 @@
+-- The block that a seed stands for.
+pub mod Drawn
