@@ -1,4 +1,5 @@
--- `strip` answers as `stripAnswer` says and leaves what `stripAfter` says: a return for each refusal and one for the strip that is filled. The rest follows from the two equations. Assumes nothing.
+-- `strip` answers as `stripAnswer` says and leaves what `stripAfter` says: a return for each refusal and one for the strip that is filled. The
+-- rest follows from the two equations. Assumes nothing.
 use Rattle.block.proofs.KnownCode.{settled-length}
 use Rattle.block.specs.Refusals.{chosenBy, chosenOf}
 use Rattle.block_strip.specs.Strips.{stripAnswer, stripAfter}
