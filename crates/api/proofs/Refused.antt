@@ -16,13 +16,16 @@ use Rattle.block.specs.Refusals.{chosenOf}
 use Rattle.block.proofs.Refused.{refusalOr, chosen-checked}
 use Rattle.api.specs.declared.Answer.{Answer}
 use Rattle.api.specs.declared.GatesAnswer.{GatesAnswer}
-use Rattle.api.specs.Answers.{answerRefusal, settingsAnswer, settingsRefusal, captionedAnswer, captionsAnswer, captionsAfter, marksAnswer, marksRefusal, restAnswer, restRefusal, scaleAnswer, scaleRefusal, anchoredAnswer, anchoredRefusal, gatesAnswer, barsAnswer}
+use Rattle.api.specs.Answers.{answerRefusal, captionedAnswer, captionsAnswer, captionsAfter, gatesAnswer, barsAnswer}
+use Rattle.api.specs.Answers.{settingsAnswer, settingsRefusal, marksAnswer, marksRefusal, restAnswer, restRefusal}
+use Rattle.api.specs.Answers.{scaleAnswer, scaleRefusal, anchoredAnswer, anchoredRefusal}
 use Rattle.api.specs.Promises.{Answered, CaptionsAnswered, GatesAnswered}
 
 -- ---- of a block and a code: an answer is refused where the choice is
-pub answered : {A : Type 0} {answer : Chosen → A} {number : A → ℕ} {block : List ℕ} {code : ℕ} {r : A} → ((a : Chosen) → number (answer a) ≡ refusalOr accepted a) → r ≡ answer (chosenOf block code)
-    → Answered answer number block code r
-answered {number = number} {block = block} {code = code} same e = record { equation = e; refusal = ap number e ∙ same (chosenOf block code) ∙ chosen-checked accepted block code }
+pub answered : {A : Type 0} {answer : Chosen → A} {number : A → ℕ} {block : List ℕ} {code : ℕ} {r : A}
+    → ((a : Chosen) → number (answer a) ≡ refusalOr accepted a) → r ≡ answer (chosenOf block code) → Answered answer number block code r
+answered {number = number} {block = block} {code = code} same e =
+    record { equation = e; refusal = ap number e ∙ same (chosenOf block code) ∙ chosen-checked accepted block code }
 
 pub settings-refused : (a : Chosen) → settingsRefusal (settingsAnswer a) ≡ refusalOr accepted a
 unfolding settingsAnswer refusalOr
@@ -59,17 +62,22 @@ captions-refused (AGenerator g) n = go (lengthFits n)
     go false = refl
 captions-refused (Refused r) n = refl
 
-pub captions-answered : {block : List ℕ} {code : ℕ} {before after : List ℕ} {r : Answer} → r ≡ captionsAnswer (chosenOf block code) (length before) → after ≡ captionsAfter (chosenOf block code) before
-    → CaptionsAnswered block code before after r
+pub captions-answered : {block : List ℕ} {code : ℕ} {before after : List ℕ} {r : Answer}
+    → r ≡ captionsAnswer (chosenOf block code) (length before) → after ≡ captionsAfter (chosenOf block code) before → CaptionsAnswered block code before after r
 captions-answered {block} {code} {before} e a =
-    record { equation = e; captions = a; refusal = ap answerRefusal e ∙ captions-refused (chosenOf block code) (length before) ∙ chosen-checked (checkLength (length before) accepted) block code }
+    record {
+      equation = e;
+      captions = a;
+      refusal = ap answerRefusal e ∙ captions-refused (chosenOf block code) (length before) ∙ chosen-checked (checkLength (length before) accepted) block code;
+    }
 
 -- ---- of a block alone
 gates-refused : (block : List ℕ) → answerRefusal (gatesAnswer block .answer) ≡ checkBlock (length block) accepted
 unfolding gatesAnswer checkBlock
 gates-refused block = go (eqb (length block) blockLength) _ _ refl refl
   where
-    go : (b : Bool) (x y : GatesAnswer) → answerRefusal (x .answer) ≡ accepted → answerRefusal (y .answer) ≡ 1 → answerRefusal (cond b x y .answer) ≡ cond b accepted 1
+    go : (b : Bool) (x y : GatesAnswer) → answerRefusal (x .answer) ≡ accepted → answerRefusal (y .answer) ≡ 1
+        → answerRefusal (cond b x y .answer) ≡ cond b accepted 1
     go true x y e f = e
     go false x y e f = f
 

@@ -1,5 +1,5 @@
--- THE ANSWERS: docs/SPECIFICATION.md, "What is offered to callers". Each is a function of what the block and the code choose: a generator's formula, or the refusal. Beside each stands the number of
--- its refusal, 0 where there is none. Definitions only.
+-- THE ANSWERS: docs/SPECIFICATION.md, "What is offered to callers". Each is a function of what the block and the code choose: a generator's
+-- formula, or the refusal. Beside each stands the number of its refusal, 0 where there is none. Definitions only.
 use mathlib.Core.Bool.{cond}
 use mathlib.Core.List.{List}
 use Prim.Native.Nat.{ℕ}

@@ -1,5 +1,5 @@
--- WHAT IS PROMISED OF THE ANSWERS: docs/SPECIFICATION.md, "What is offered to callers"; of taps, "The three demands". A height's promise is HeightAnswered (block/specs/Promises), a strip's StripAnswered
--- (block_strip/specs/Promises). Definitions only.
+-- WHAT IS PROMISED OF THE ANSWERS: docs/SPECIFICATION.md, "What is offered to callers"; of taps, "The three demands". A height's promise is
+-- HeightAnswered (block/specs/Promises), a strip's StripAnswered (block_strip/specs/Promises). Definitions only.
 use mathlib.Core.Path.{_≡_}
 use mathlib.Core.List.{List}
 use Prim.Native.Nat.{ℕ, _<_}
@@ -22,7 +22,8 @@ use Rattle.api.specs.declared.GatesAnswer.{GatesAnswer}
 use Rattle.api.specs.Answers.{answerRefusal, captionsAnswer, captionsAfter}
 
 -- ---- of a block and a code
--- The answer is that of the formulas, refusals included. It is refused by the first check that fails, and by nothing else: `number` is that of an answer's refusal.
+-- The answer is that of the formulas, refusals included. It is refused by the first check that fails, and by nothing else; `number` gives an
+-- answer's refusal, 0 for none.
 pub record Answered {A : Type 0} (answer : Chosen → A) (number : A → ℕ) (block : List ℕ) (code : ℕ) (r : A) : Type 0 where
   pub equation : r ≡ answer (chosenOf block code)
   pub refusal : number r ≡ checkBlock (length block) (checkCode code accepted)

@@ -55,7 +55,8 @@ chosen-checked next block code = same (settledOf block code) ∙ block-checked n
     same (NoCode r) = refl
 
 -- ---- a height is refused where the choice is
-pub height-checked : (block : List ℕ) (code : ℕ) (t : Float) → heightRefusal (heightAnswer (chosenOf block code) t) ≡ checkBlock (length block) (checkCode code accepted)
+pub height-checked : (block : List ℕ) (code : ℕ) (t : Float)
+    → heightRefusal (heightAnswer (chosenOf block code) t) ≡ checkBlock (length block) (checkCode code accepted)
 unfolding heightAnswer refusalOr
 height-checked block code t = same (chosenOf block code) ∙ chosen-checked accepted block code
   where

@@ -62,7 +62,8 @@ pub record HeightGiven (c : Code) (block : List ℕ) (t : Float) (r : HeightAnsw
   pub answer : r ≡ AHeight height
   pub promised : CodePromised c (byteAt block) t height
 
--- The answer is that of the formulas, refusals included. It is refused by the first check that fails, and by nothing else. A block of 242 bytes and a known code are given a height.
+-- The answer is that of the formulas, refusals included. It is refused by the first check that fails, and by nothing else. A block of 242 bytes
+-- and a known code are given a height.
 pub record HeightAnswered (block : List ℕ) (code : ℕ) (t : Float) (r : HeightAnswer) : Type 0 where
   pub equation : r ≡ heightAnswer (chosenOf block code) t
   pub refusal : heightRefusal r ≡ checkBlock (length block) (checkCode code accepted)

@@ -1,5 +1,5 @@
--- WHAT IS PROMISED OF A STRIP FOLLOWS FROM ITS EQUATIONS: it keeps its length, it is refused by the first check that fails, and each sample is the height at its own position, with all that is promised of one.
--- Assumes nothing.
+-- WHAT IS PROMISED OF A STRIP FOLLOWS FROM ITS EQUATIONS: it is refused by the first check that fails, it keeps its length, and each sample is
+-- the height at its own position, with all that is promised of one. Assumes nothing.
 use mathlib.Core.Path.{_≡_, refl, sym, ap, _∙_}
 use mathlib.Core.Bool.{Bool, true, false, cond}
 use mathlib.Core.List.{List}
@@ -30,7 +30,8 @@ use Rattle.block_strip.specs.Strips.{stripAnswer, stripAfter, stripRefus
 use Rattle.block_strip.specs.Promises.{Sampled, StripAnswered}
 
 -- ---- a strip is refused where the choice is, then by its length
-strip-checked : (block : List ℕ) (code n : ℕ) → stripRefusal (stripAnswer (chosenOf block code) n) ≡ checkBlock (length block) (checkCode code (checkLength n accepted))
+strip-checked : (block : List ℕ) (code n : ℕ)
+    → stripRefusal (stripAnswer (chosenOf block code) n) ≡ checkBlock (length block) (checkCode code (checkLength n accepted))
 unfolding stripAnswer refusalOr checkLength
 strip-checked block code n = same (chosenOf block code) ∙ chosen-checked (checkLength n accepted) block code
   where
@@ -43,7 +44,8 @@ strip-checked block code n = same (chosenOf block code) ∙ chosen-checked (chec
     same (Refused r) = refl
 
 -- ---- a block of 242 bytes and a known code fill it with the heights of the code's shape
-filled : (block : List ℕ) (code : ℕ) (xs : List Float) (c : Code) → codeOf code ≡ Known c → length block ≡ blockLength → stripAfter (chosenOf block code) xs ≡ stripOf (shapeOf c (byteAt block)) xs
+filled : (block : List ℕ) (code : ℕ) (xs : List Float) (c : Code) → codeOf code ≡ Known c → length block ≡ blockLength
+    → stripAfter (chosenOf block code) xs ≡ stripOf (shapeOf c (byteAt block)) xs
 unfolding stripAfter generatorOf
 filled block code xs c k l = simp (known-chosen block code c k l)
 

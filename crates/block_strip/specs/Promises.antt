@@ -23,8 +23,8 @@ pub record Sampled (c : Code) (block : List ℕ) (strip : List Float) (i : ℕ) 
   pub holds : getD strip i nan ≡ height .height
   pub promised : CodePromised c (byteAt block) (samplePosition (length strip) i) height
 
--- The answer and what the strip holds afterwards are those of the formulas, refusals included; a strip keeps its length. It is refused by the first check that fails, and by nothing else. A block of 242 bytes,
--- a known code and a length from 2 to 4,096 are given every sample.
+-- The answer and what the strip holds afterwards are those of the formulas, refusals included; a strip keeps its length. It is refused by the
+-- first check that fails, and by nothing else. A block of 242 bytes, a known code and a length from 2 to 4,096 are given every sample.
 pub record StripAnswered (block : List ℕ) (code : ℕ) (before after : List Float) (r : StripAnswer) : Type 0 where
   pub equation : r ≡ stripAnswer (chosenOf block code) (length before)
   pub strip : after ≡ stripAfter (chosenOf block code) before

@@ -66,7 +66,7 @@ fn more(n: u32) -> u32 {
 }
 
 fn gate_answer(place: Place) -> Answer {
-    let gates = generator::arpeggiator_gates(low_byte(place.bytes));
+    let gates = gates::arpeggiator_gates(low_byte(place.bytes));
     let letter = place.letter;
     match letter {
         b'N' => answer::gate_count(gates),
