@@ -1,69 +1,58 @@
--- What `abs` returns, by its tests against zero. Assumes nothing.
-use mathlib.Core.Path.{_≡_, refl, sym, _∙_, subst}
-use mathlib.Core.Bool.{Bool, true, false, cond, _&&_, false≢true, true≢false}
-use Prim.Native.Nat.{ℕ, zero, suc, _+_, _*_, _≤_, _<_}
+-- THE SIZE OF A FLOAT IS ITS BITS WITHOUT THE SIGN. Assumes nothing.
+use mathlib.Core.Path.{_≡_, refl, sym, ap, subst, _∙_}
+use mathlib.Core.Bool.{Bool, true, false, not, cond, false≢true}
+use Prim.Native.Nat.{ℕ, zero, suc, _+_, _/_, _%_, _^_, _≤_, _<_}
 use native.Mathlib.Omega.{arith}
-use lib.Dec.{T, eqb, eqb→eq}
-use lib.IntN.{ℤ}
-use lib.Ieee.{Float, nan, inf, fin, binary32, up, down, ofBits, neg, lt, eq, fits}
-use lib.Ieee.Fits.{and-l}
-use lib.Ieee.Bits.{ofBits-fits}
-use lib.Ieee.Back.{whole-unique}
-use borrow.Author.Tests.{ltb-true, ltb-false, eq-eqb}
-use Rattle.exact.specs.Binary32.{zero₃₂}
-use Rattle.math.specs.Formulas.{unsignedZero, absOf}
+use lib.Dec.{T, eqb, leb, leb→le, not-T}
+use lib.Ieee.{Float, nan, inf, fin, binary32, odd, ofFields, ofBits, toBits, nanBits, fits, isNan}
+use lib.Ieee.Bits.{is-false, ofBits-toBits, nanBits-is}
+use Rattle.math.specs.Formulas.{absOf}
 
--- ---- a finite x against zero: n / d is its size
-none-below : (n d : ℕ) → n * 1 < 0 * 1 * d → ⊥
-none-below n d h = omega arith
+odd-size : (d : ℕ) (s : Bool) (q k l : ℕ) → odd d false q k l ≡ absOf (odd d s q k l)
+unfolding odd absOf
+odd-size d s zero k l = refl
+odd-size d s (suc q) k l = refl
 
-no-size : (n d : ℕ) → n * 1 + 0 * 1 * d ≤ 0 → n ≡ 0
-no-size n d h = omega arith
-
-level-zero : (n d : ℕ) → n ≡ 0 → eqb (n * 1) (0 * 1 * d) && eqb (n * 1) 0 ≡ true
-level-zero n d h =
-    let a : n * 1 ≡ 0 * 1 * d = omega arith in
-    let b : n * 1 ≡ 0 = omega arith in
-    simp (eq-eqb (n * 1) (0 * 1 * d) a, eq-eqb (n * 1) 0 b)
-
-pub negative : (x : Float) → lt x zero₃₂ ≡ true → neg x ≡ absOf x
-unfolding lt ofBits neg absOf
-negative nan h = absurd (false≢true h)
-negative (inf true) h = refl
-negative (inf false) h = absurd (false≢true h)
-negative (fin true m e) h = refl
-negative (fin false m e) h = absurd (none-below (m * up e) (down e) (ltb-true (m * up e * 1) (0 * 1 * down e) h))
-
--- the sign does not decide whether the format holds a number
-any-sign : (s t : Bool) (m : ℕ) (e : ℤ) → T (fits binary32 (fin s m e)) → T (fits binary32 (fin t m e))
-unfolding fits
-any-sign s t zero e f = f
-any-sign s t (suc m) e f = f
-
--- of two zeros with no sign one is the other
-zero-is : (s : Bool) (m : ℕ) (e : ℤ) → T (fits binary32 (fin s m e)) → T (eqb (m * up e * 1) (0 * 1 * down e)) → zero₃₂ ≡ absOf (fin s m e)
-unfolding ofBits absOf
-zero-is s m e f h = whole-unique binary32 zero₃₂ (fin false m e) false 0 (ofBits-fits binary32 0) (any-sign s false m e f) (refl, refl) (refl, eqb→eq (m * up e * 1) (0 * 1 * down e) h)
-
-at-zero : (x : Float) → T (fits binary32 x) → eq x zero₃₂ ≡ true → zero₃₂ ≡ absOf x
-unfolding eq ofBits
-at-zero nan f h = absurd (false≢true h)
-at-zero (inf s) f h = absurd (false≢true h)
-at-zero (fin s m e) f h = zero-is s m e f (and-l (eqb (m * up e * 1) (0 * 1 * down e)) _ (subst T (sym h) tt))
-
-positive : (x : Float) → lt x zero₃₂ ≡ false → eq x zero₃₂ ≡ false → x ≡ absOf x
-unfolding lt eq ofBits absOf
-positive nan h k = refl
-positive (inf true) h k = absurd (true≢false h)
-positive (inf false) h k = refl
-positive (fin true m e) h k =
-    let z = no-size (m * up e) (down e) (ltb-false 0 (m * up e * 1 + 0 * 1 * down e) h) in
-    absurd (true≢false (sym (level-zero (m * up e) (down e) z) ∙ k))
-positive (fin false m e) h k = refl
-
-pub not-negative : (x : Float) → T (fits binary32 x) → lt x zero₃₂ ≡ false → unsignedZero x ≡ absOf x
-not-negative x f h = go (eq x zero₃₂) refl
+fields-size : (s : Bool) (F t : ℕ) → ofFields binary32 false F t ≡ absOf (ofFields binary32 s F t)
+unfolding ofFields absOf
+fields-size s zero t = odd-size 24 s t 0 149
+fields-size s (suc x) t = go (eqb (suc x) 255) (eqb t 0)
   where
-    go : (t : Bool) → eq x zero₃₂ ≡ t → cond t zero₃₂ x ≡ absOf x
-    go true k = at-zero x f k
-    go false k = positive x h k
+    go : (a b : Bool) → cond a (cond b (inf false) nan) (odd 24 false (2 ^ 23 + t) x 149) ≡ absOf (cond a (cond b (inf s) nan) (odd 24 s (2 ^ 23 + t) x 149))
+    go true true = refl
+    go true false = refl
+    go false b = odd-size 24 s (2 ^ 23 + t) x 149
+
+bits-size : (b : ℕ) → ofBits binary32 (b % 2 ^ 31) ≡ absOf (ofBits binary32 b)
+unfolding ofBits
+bits-size b =
+    ap (λ (s : Bool). ofFields binary32 s (b % 2 ^ 31 % 2 ^ 31 / 2 ^ 23) (b % 2 ^ 31 % 2 ^ 23)) (is-false (leb (2 ^ 31) (b % 2 ^ 31)) (not-T (leb (2 ^ 31) (b % 2 ^ 31)) (λ (e : T (leb (2 ^ 31) (b % 2 ^ 31))). none b (leb→le (2 ^ 31) (b % 2 ^ 31) e))))
+    ∙ ap (λ (z : ℕ). ofFields binary32 false (z / 2 ^ 23) (b % 2 ^ 31 % 2 ^ 23)) (again b) ∙ ap (ofFields binary32 false (b % 2 ^ 31 / 2 ^ 23)) (low b) ∙ fields-size (leb (2 ^ 31) b) (b % 2 ^ 31 / 2 ^ 23) (b % 2 ^ 23)
+  where
+    none : (b : ℕ) → 2 ^ 31 ≤ b % 2 ^ 31 → ⊥
+    none b h = omega arith
+
+    again : (b : ℕ) → b % 2 ^ 31 % 2 ^ 31 ≡ b % 2 ^ 31
+    again b = omega arith
+
+    low : (b : ℕ) → b % 2 ^ 31 % 2 ^ 23 ≡ b % 2 ^ 23
+    low b = omega arith
+
+pub size-by-bits : (x : Float) → T (fits binary32 x) → ofBits binary32 (toBits binary32 x % 2 ^ 31) ≡ absOf x
+size-by-bits x f = bits-size (toBits binary32 x) ∙ ap absOf (ofBits-toBits binary32 x f)
+
+-- a NaN has none, and what is none has no NaN for its size
+pub nan-size : (x : Float) → isNan x ≡ true → x ≡ absOf x
+unfolding isNan absOf
+nan-size nan h = refl
+nan-size (inf s) h = absurd (false≢true h)
+nan-size (fin s m e) h = absurd (false≢true h)
+
+number : (x : Float) → isNan x ≡ false → isNan (absOf x) ≡ false
+unfolding isNan absOf
+number nan h = h
+number (inf s) h = refl
+number (fin s m e) h = refl
+
+pub size-no-nan : (x : Float) → T (fits binary32 x) → isNan x ≡ false → T (not (nanBits binary32 (toBits binary32 x % 2 ^ 31)))
+size-no-nan x f h = subst (λ (b : Bool). T (not b)) (sym (nanBits-is binary32 (toBits binary32 x % 2 ^ 31) ∙ ap isNan (size-by-bits x f) ∙ number x h)) tt
