@@ -59,6 +59,15 @@ deliver() {
     part=
 }
 
+# Makes the page of what was gathered. It has the name of the block's file, without its folder; without a block there is none.
+page() { # BLOCK or ''
+    case $1 in
+    '') run sheet "$scratch/blocks" '</svg>' ;;
+    -) run sheet "$scratch/blocks" '</svg>' 'standard input' ;;
+    *) run sheet "$scratch/blocks" '</svg>' "${1##*/}" ;;
+    esac
+}
+
 # Runs a program. It has no exit status of its own: its text is whole where the last line has a mark.
 run() { # PROGRAM INPUT MARK [ARGUMENT..]
     program=$1

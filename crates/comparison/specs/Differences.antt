@@ -14,6 +14,8 @@ use Rattle.codes.specs.Bytes.{bytesOf, byteAt, gatesByte, blockLength}
 use Rattle.block.specs.Shapes.{shapeOf}
 use Rattle.rows.specs.Rows.{ninePlaces}
 use Rattle.labels.specs.Names.{titleOf}
+use Rattle.program_name.specs.ProgramName.{nameInLine}
+use Rattle.undrawn_bytes.specs.Undrawn.{undrawnCount, undrawnPart}
 use Rattle.comparison_bytes.specs.Changes.{sameBytes, changesText}
 use Rattle.comparison.specs.declared.Largest.{Largest as ALargest}
 use Rattle.comparison.specs.Largest.{comparedSamples, positionAt, largestOf}
@@ -54,10 +56,20 @@ unfoldable pub gateCount : (ℕ → ℕ) → (ℕ → ℕ) → ℕ
 gateCount a b = cond (sameBytes (gatesByte ∷ []) a b) 0 1
 
 -- ---- all of it
--- The 14 generators, the gates, and how many of the 15 differ.
-unfoldable pub programsText : (ℕ → ℕ) → (ℕ → ℕ) → List ℕ
-programsText a b = codesText 14 a b ++ gateText a b ++ decimalOf (codesCount 14 a b + gateCount a b) ++ ascii " of 15 differ\n"
+-- Both programs' names.
+unfoldable pub namesText : List ℕ → List ℕ → List ℕ
+namesText old new = ascii "old  " ++ nameInLine (ascii "(no name)") old ++ ascii "\nnew  " ++ nameInLine (ascii "(no name)") new ++ ascii "\n"
+
+-- How many of the 14 generators and the gates differ, and how many bytes that no curve draws.
+unfoldable pub countsText : (ℕ → ℕ) → (ℕ → ℕ) → List ℕ
+countsText a b =
+    decimalOf (codesCount 14 a b + gateCount a b) ++ ascii " of 15 differ, and of the bytes that no curve draws " ++ decimalOf (undrawnCount blockLength a b) ++ ascii "\n"
+
+unfoldable pub programsText : List ℕ → List ℕ → List ℕ
+programsText old new =
+    namesText old new ++ codesText 14 (byteAt old) (byteAt new) ++ gateText (byteAt old) (byteAt new) ++
+    undrawnPart (byteAt old) (byteAt new) ++ countsText (byteAt old) (byteAt new)
 
 -- Where a block has another length there is no text.
 unfoldable pub differencesText : List ℕ → List ℕ → List ℕ
-differencesText old new = cond (eqb (length old) blockLength) (cond (eqb (length new) blockLength) (programsText (byteAt old) (byteAt new)) []) []
+differencesText old new = cond (eqb (length old) blockLength) (cond (eqb (length new) blockLength) (programsText old new) []) []

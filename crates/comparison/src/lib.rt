@@ -1,4 +1,4 @@
-// What differs between two programs: a line for each generator and for the arpeggio's gates, with a line for each of their bytes that is not the same.
+// What differs between two programs: a line for each generator and for the arpeggio's gates, with a line for each of their bytes that is not the same; then the other bytes.
 ghost use mathlib.Core.Path.{_≡_};
 ghost use Prim.Native.Nat.{_≤_};
 ghost use lib.ListN.{length};
@@ -6,7 +6,7 @@ ghost use Rattle.text.specs.Text.{Puts};
 ghost use Rattle.codes.specs.Codes.{codeOf};
 ghost use Rattle.codes.specs.Bytes.{byteAt, blockLength};
 ghost use Rattle.comparison.specs.Largest.{differenceAt, largerOf, largestOf};
-ghost use Rattle.comparison.specs.Differences.{largestText, generatorText, codeText, codesText, gateText, codeCount, codesCount, gateCount, differencesText};
+ghost use Rattle.comparison.specs.Differences.{largestText, generatorText, codeText, codesText, gateText, codeCount, codesCount, gateCount, namesText, countsText, programsText, differencesText};
 use block::BLOCK;
 use block::shape_at;
 use codes::CODES;
@@ -23,10 +23,13 @@ use generator::Generator;
 use generator::of_shape;
 use labels::put_title;
 use math::abs;
+use program_name::put_name_in_line;
 use rows::put_nine_places;
 use strip::sample_position;
 use text::put;
 use text::put_decimal;
+use undrawn_bytes::count_undrawn;
+use undrawn_bytes::put_undrawn_part;
 
 // The number of the last sample at which two curves are held against each other.
 const LAST: u16 = 1024;
@@ -175,6 +178,42 @@ fn count_gate(old: &[u8], new: &[u8]) -> u64
 }
 
 // ---- all of it
+fn put_names(out: &mut [u8], at: usize, old: &[u8], new: &[u8]) -> usize
+    requires { ⌜ (length (now old) ≡ blockLength) × (length (now new) ≡ blockLength) ⌝ }
+    ensures { λ r. ⌜ Puts (now (out .entry)) at (namesText (now (old .entry)) (now (new .entry))) (now (out .exit)) r ⌝ }
+{
+    let mut next = put(out, at, b"old  ");
+    next = put_name_in_line(out, next, old, b"(no name)");
+    next = put(out, next, b"\nnew  ");
+    next = put_name_in_line(out, next, new, b"(no name)");
+    put(out, next, b"\n")
+}
+
+fn put_counts(out: &mut [u8], at: usize, old: &[u8], new: &[u8]) -> usize
+    requires { ⌜ (length (now old) ≡ blockLength) × (length (now new) ≡ blockLength) ⌝ }
+    ensures { λ r. ⌜ Puts (now (out .entry)) at (countsText (byteAt (now (old .entry))) (byteAt (now (new .entry)))) (now (out .exit)) r ⌝ }
+{
+    let mut next = put_decimal(out, at, count_codes(old, new) + count_gate(old, new));
+    next = put(
+        out,
+        next,
+        b" of 15 differ, and of the bytes that no curve draws ",
+    );
+    next = put_decimal(out, next, count_undrawn(old, new));
+    put(out, next, b"\n")
+}
+
+fn put_programs(out: &mut [u8], at: usize, old: &[u8], new: &[u8]) -> usize
+    requires { ⌜ (length (now old) ≡ blockLength) × (length (now new) ≡ blockLength) ⌝ }
+    ensures { λ r. ⌜ Puts (now (out .entry)) at (programsText (now (old .entry)) (now (new .entry))) (now (out .exit)) r ⌝ }
+{
+    let mut next = put_names(out, at, old, new);
+    next = put_codes(out, next, old, new);
+    next = put_gate(out, next, old, new);
+    next = put_undrawn_part(out, next, old, new);
+    put_counts(out, next, old, new)
+}
+
 // The text of two blocks; where one has another length, nothing.
 pub fn put_differences(out: &mut [u8], at: usize, old: &[u8], new: &[u8]) -> usize
     ensures { λ r. ⌜ Puts (now (out .entry)) at (differencesText (now (old .entry)) (now (new .entry))) (now (out .exit)) r ⌝ }
@@ -185,8 +224,5 @@ pub fn put_differences(out: &mut [u8], at: usize, old: &[u8], new: &[u8]) -> usi
     if new.len() != BLOCK {
         return at;
     }
-    let mut next = put_codes(out, at, old, new);
-    next = put_gate(out, next, old, new);
-    next = put_decimal(out, next, count_codes(old, new) + count_gate(old, new));
-    put(out, next, b" of 15 differ\n")
+    put_programs(out, at, old, new)
 }

@@ -34,15 +34,15 @@ dialText y name b note = dialStart y name b ++ note ++ dialEnd
 unfoldable pub plainDial : ℕ → List ℕ → ℕ → List ℕ
 plainDial y name b = dialStart y name b ++ dialEnd
 
--- A time or level of an envelope, with its curve for a note.
+-- A time or level of an envelope, with its curve for a note: the curve's byte is to be dialled in too, so it is bold.
 unfoldable pub curvedDial : ℕ → List ℕ → ℕ → ℕ → List ℕ
-curvedDial y name b curve = dialStart y name b ++ ascii "curve " ++ decimalOf curve ++ dialEnd
+curvedDial y name b curve = dialStart y name b ++ ascii "curve <tspan class='b'>" ++ decimalOf curve ++ ascii "</tspan></tspan></text>"
 
 abbrev pub shapeDial : ℕ → List ℕ
 shapeDial b = dialText lineOne (ascii "Shape") b (shapeNote b)
 
 abbrev pub polesDial : ℕ → List ℕ
-polesDial b = dialText lineTwo (ascii "Poles") b (polesNote b)
+polesDial b = dialText lineTwo (ascii "Pole mode") b (polesNote b)
 
 abbrev pub sourceDial : ℕ → List ℕ
 sourceDial b = dialText lineThree (ascii "PWM source") b (sourceNote b)

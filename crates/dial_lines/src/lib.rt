@@ -43,9 +43,9 @@ pub fn put_curved(out: &mut [u8], at: usize, y: u64, name: &[u8], b: u8, curve: 
     ensures { λ r. ⌜ Puts (now (out .entry)) at (curvedDial y (now (name .entry)) b curve) (now (out .exit)) r ⌝ }
 {
     let mut next = start(out, at, y, name, b);
-    next = put(out, next, b"curve ");
+    next = put(out, next, b"curve <tspan class='b'>");
     next = put_decimal(out, next, curve as u64);
-    end(out, next)
+    put(out, next, b"</tspan></tspan></text>")
 }
 
 pub fn put_shape(out: &mut [u8], at: usize, b: u8) -> usize
@@ -59,7 +59,7 @@ pub fn put_shape(out: &mut [u8], at: usize, b: u8) -> usize
 pub fn put_poles(out: &mut [u8], at: usize, b: u8) -> usize
     ensures { λ r. ⌜ Puts (now (out .entry)) at (polesDial b) (now (out .exit)) r ⌝ }
 {
-    let mut next = start(out, at, 1620, b"Poles", b);
+    let mut next = start(out, at, 1620, b"Pole mode", b);
     next = labels::put_poles(out, next, b);
     end(out, next)
 }

@@ -22,6 +22,18 @@ lfoDials b n =
     shapeDial (b (n + shapePlace)) ++ plainDial lineTwo (ascii "Slew rate") (b (n + slewPlace)) ++
     dialText lineThree (ascii "Key sync") (b (n + keySyncPlace)) (switchNote (b (n + keySyncPlace)))
 
+-- The bytes of an LFO that no curve draws, from byte n on: its rate, arp sync and mono mode. They stand below the LFO's second panel.
+abbrev pub arpSyncPlace : ℕ
+arpSyncPlace = 4
+
+abbrev pub monoModePlace : ℕ
+monoModePlace = 5
+
+unfoldable pub lfoOtherDials : (ℕ → ℕ) → ℕ → List ℕ
+lfoOtherDials b n =
+    plainDial lineOne (ascii "Rate") (b n) ++ dialText lineTwo (ascii "Arp sync") (b (n + arpSyncPlace)) (switchNote (b (n + arpSyncPlace))) ++
+    plainDial lineThree (ascii "Mono mode") (b (n + monoModePlace))
+
 unfoldable pub lowPassDials : (ℕ → ℕ) → List ℕ
 lowPassDials b = plainDial lineOne (ascii "Resonance") (b resonanceByte) ++ polesDial (b poleByte)
 
@@ -37,7 +49,7 @@ oscillatorDials b =
 unfoldable pub dialsOf : Code → (ℕ → ℕ) → List ℕ
 dialsOf (Envelope id) b = envelopeDials b (envelopeFirst id)
 dialsOf (Lfo id) b = lfoDials b (lfoFirst id)
-dialsOf (LfoUnipolar id) b = lfoDials b (lfoFirst id)
+dialsOf (LfoUnipolar id) b = lfoOtherDials b (lfoFirst id)
 dialsOf (Fade id) b = onlyDial (ascii "Fade time") (b (fadeByte id))
 dialsOf LowPass b = lowPassDials b
 dialsOf HighPass b = highPassDials

@@ -4,7 +4,7 @@ ghost use Prim.Native.Nat.{_+_, _<_};
 ghost use lib.ListN.{length};
 ghost use Rattle.text.specs.Text.{Puts};
 ghost use Rattle.codes.specs.Bytes.{byteAt, blockLength, slewPlace, releaseCurvePlace};
-ghost use Rattle.dials.specs.Dials.{envelopeDials, lfoDials, lowPassDials, oscillatorDials, dialsOf};
+ghost use Rattle.dials.specs.Dials.{envelopeDials, lfoDials, lfoOtherDials, lowPassDials, oscillatorDials, dialsOf};
 use codes::ATTACK_CURVE;
 use codes::Code;
 use codes::DECAY;
@@ -37,6 +37,11 @@ use dial_lines::put_shape;
 use dial_lines::put_source;
 use dial_lines::put_switch;
 use text::put;
+
+// The places of an LFO's bytes that no curve reads, counted from its first byte, the rate.
+const ARP_SYNC: usize = 4;
+
+const MONO_MODE: usize = 5;
 
 fn envelope_dials(out: &mut [u8], at: usize, block: &[u8], from: usize) -> usize
     requires { ⌜ from + releaseCurvePlace < blockLength ⌝ }
@@ -87,6 +92,17 @@ fn lfo_dials(out: &mut [u8], at: usize, block: &[u8], from: usize) -> usize
     put_switch(out, next, 1940, b"Key sync", block[from + KEY_SYNC])
 }
 
+// The bytes of an LFO that no curve draws.
+fn lfo_other_dials(out: &mut [u8], at: usize, block: &[u8], from: usize) -> usize
+    requires { ⌜ from + slewPlace < blockLength ⌝ }
+    requires { ⌜ length (now block) ≡ blockLength ⌝ }
+    ensures { λ r. ⌜ Puts (now (out .entry)) at (lfoOtherDials (byteAt (now (block .entry))) from) (now (out .exit)) r ⌝ }
+{
+    let mut next = put_plain(out, at, 1300, b"Rate", block[from]);
+    next = put_switch(out, next, 1620, b"Arp sync", block[from + ARP_SYNC]);
+    put_plain(out, next, 1940, b"Mono mode", block[from + MONO_MODE])
+}
+
 fn low_pass_dials(out: &mut [u8], at: usize, block: &[u8]) -> usize
     requires { ⌜ length (now block) ≡ blockLength ⌝ }
     ensures { λ r. ⌜ Puts (now (out .entry)) at (lowPassDials (byteAt (now (block .entry)))) (now (out .exit)) r ⌝ }
@@ -113,7 +129,7 @@ pub fn put_dials(out: &mut [u8], at: usize, block: &[u8], code: Code) -> usize
     match code {
         Code::Envelope(id) => envelope_dials(out, at, block, envelope_first(id)),
         Code::Lfo(id) => lfo_dials(out, at, block, lfo_first(id)),
-        Code::LfoUnipolar(id) => lfo_dials(out, at, block, lfo_first(id)),
+        Code::LfoUnipolar(id) => lfo_other_dials(out, at, block, lfo_first(id)),
         Code::Fade(id) => {
             let n = fade_byte(id);
             put_dial(out, at, b"Fade time", block[n])

@@ -1,56 +1,51 @@
 // A program's sheet as one page of SVG, A4 landscape: the name, a panel for each generator, the arpeggio's gates.
 ghost use mathlib.Core.Path.{_≡_};
-ghost use Prim.Native.Nat.{_≤_};
 ghost use lib.ListN.{length};
 ghost use Rattle.text.specs.Text.{Puts};
 ghost use Rattle.codes.specs.Bytes.{blockLength};
-ghost use Rattle.page.specs.Page.{nameEnd, styleText, headText, footText, pageOf, pageText};
+ghost use Rattle.page.specs.Page.{styleText, nameText, headText, fileText, footText, pageOf, pageText};
 use block::BLOCK;
 use codes::GATE_TIME;
 use page_panels::put_arpeggio;
 use page_panels::put_panels;
+use program_name::put_name_in_xml;
 use text::put;
-
-// The bytes of the name, with its terminator.
-const NAME: usize = 223;
-
-const NAME_END: usize = 240;
+use text::put_escaped_all;
 
 // ---- head and foot
-// Where the name ends: at its first 0, or after its last byte.
-fn name_end(block: &[u8]) -> usize
-    requires { ⌜ length (now block) ≡ blockLength ⌝ }
-    ensures { λ r. ⌜ (r ≡ nameEnd (now (block .entry))) × (223 ≤ r) × (r ≤ 240) ⌝ }
-{
-    let mut i: usize = NAME;
-    while i < NAME_END {
-        if block[i] == 0 {
-            return i;
-        }
-        i += 1;
-    }
-    i
-}
-
 fn put_style(out: &mut [u8], at: usize) -> usize
     ensures { λ r. ⌜ Puts (now (out .entry)) at styleText (now (out .exit)) r ⌝ }
 {
     put(
         out,
         at,
-        b"<svg xmlns='http://www.w3.org/2000/svg' width='297mm' height='210mm' viewBox='0 0 29700 21000'>\n<style>text{font:260px Helvetica,Arial,sans-serif}.h{font-size:360px}.n{font-size:560px;font-weight:bold}.t{font-size:360px;font-weight:bold}.d{font-size:280px}.b{font-weight:bold}.m{font-size:240px;text-anchor:middle}path,polyline{fill:none;stroke:#000}.f{stroke-width:15}.r{stroke-width:12;stroke-dasharray:80 60}.v{stroke-width:8}.c{stroke-width:32;stroke-linejoin:round}.u{stroke:#999;stroke-width:70;stroke-linejoin:round}.g{fill:#bbb;stroke-width:20}</style>\n<rect width='29700' height='21000' fill='#fff'/>\n",
+        b"<svg xmlns='http://www.w3.org/2000/svg' width='297mm' height='210mm' viewBox='0 0 29700 21000'>\n<style>@page{size:A4 landscape;margin:0}text{font:260px Helvetica,Arial,sans-serif}.h{font-size:360px}.n{font-size:560px;font-weight:bold}.t{font-size:360px;font-weight:bold}.d{font-size:280px}.b{font-weight:bold}.m{font-size:240px;text-anchor:middle}path,polyline{fill:none;stroke:#000}.f{stroke-width:15}.r{stroke-width:12;stroke-dasharray:80 60}.v{stroke-width:8}.c{stroke-width:32;stroke-linejoin:round}.u{stroke:#999;stroke-width:70;stroke-linejoin:round}.g{fill:#bbb;stroke-width:20}</style>\n<rect width='29700' height='21000' fill='#fff'/>\n",
     )
 }
 
-fn put_head(out: &mut [u8], at: usize, name: &[u8]) -> usize
-    ensures { λ r. ⌜ Puts (now (out .entry)) at (headText (now (name .entry))) (now (out .exit)) r ⌝ }
+// The name, and what stands in its place where it has no character.
+fn put_name(out: &mut [u8], at: usize, file: &[u8], block: &[u8]) -> usize
+    requires { ⌜ length (now block) ≡ blockLength ⌝ }
+    ensures { λ r. ⌜ Puts (now (out .entry)) at (nameText (now (file .entry)) (now (block .entry))) (now (out .exit)) r ⌝ }
 {
-    let mut next = put(
+    if file.len() == 0 {
+        return put_name_in_xml(out, at, block, b"(empty program)");
+    }
+    put_name_in_xml(out, at, block, b"(no name)")
+}
+
+fn put_head(out: &mut [u8], at: usize, file: &[u8], block: &[u8]) -> usize
+    requires { ⌜ length (now block) ≡ blockLength ⌝ }
+    ensures { λ r. ⌜ Puts (now (out .entry)) at (headText (now (file .entry)) (now (block .entry))) (now (out .exit)) r ⌝ }
+{
+    let mut next = put(out, at, b"<title>");
+    next = put_name(out, next, file, block);
+    next = put(
         out,
-        at,
-        b"<text class='h' x='1150' y='1450'>DeepMind 12 program</text><text class='n' x='5500' y='1450'>",
+        next,
+        b"</title>\n<text class='h' x='1150' y='1450'>DeepMind 12 program</text><text class='n' x='5500' y='1450'>",
     );
-    next = text::put_escaped_all(out, next, name);
+    next = put_name(out, next, file, block);
     put(
         out,
         next,
@@ -58,35 +53,51 @@ fn put_head(out: &mut [u8], at: usize, name: &[u8]) -> usize
     )
 }
 
-fn put_foot(out: &mut [u8], at: usize) -> usize
-    ensures { λ r. ⌜ Puts (now (out .entry)) at footText (now (out .exit)) r ⌝ }
+fn put_file(out: &mut [u8], at: usize, file: &[u8]) -> usize
+    ensures { λ r. ⌜ Puts (now (out .entry)) at (fileText (now (file .entry))) (now (out .exit)) r ⌝ }
 {
-    put(
+    if file.len() == 0 {
+        return put(out, at, b"No file");
+    }
+    let next = put(out, at, b"File ");
+    put_escaped_all(out, next, file)
+}
+
+fn put_foot(out: &mut [u8], at: usize, file: &[u8]) -> usize
+    ensures { λ r. ⌜ Puts (now (out .entry)) at (footText (now (file .entry))) (now (out .exit)) r ⌝ }
+{
+    let mut next = put(
         out,
         at,
-        b"<text x='1150' y='20550'>Bold: the bytes to dial in, 0 to 255. A, D, S, R: where attack, decay, sustain and release start. Dashed: the rest level. Left edge free: a cycle that runs on, drawn from its start. A frame is 50 mm by 25 mm.</text>\n</svg>\n",
+        b"<text x='1150' y='20200'>Bold: the bytes to dial in, 0 to 255. A, D, S, R: where attack, decay, sustain and release start. Dashed: the rest level. May start anywhere: a cycle that runs on, drawn from its start. A frame is 50 mm by 25 mm.</text>\n<text x='1150' y='20540'>",
+    );
+    next = put_file(out, next, file);
+    put(
+        out,
+        next,
+        b". The other parameters are not on this page.</text>\n</svg>\n",
     )
 }
 
 // ---- the whole
-fn put_page(out: &mut [u8], older: &[u8], block: &[u8]) -> usize
+fn put_page(out: &mut [u8], file: &[u8], older: &[u8], block: &[u8]) -> usize
     requires { ⌜ length (now block) ≡ blockLength ⌝ }
-    ensures { λ r. ⌜ Puts (now (out .entry)) 0 (pageOf (now (older .entry)) (now (block .entry))) (now (out .exit)) r ⌝ }
+    ensures { λ r. ⌜ Puts (now (out .entry)) 0 (pageOf (now (file .entry)) (now (older .entry)) (now (block .entry))) (now (out .exit)) r ⌝ }
 {
-    let end = name_end(block);
     let mut next = put_style(out, 0);
-    next = put_head(out, next, &block[NAME..end]);
+    next = put_head(out, next, file, block);
     next = put_panels(out, next, older, block);
     next = put_arpeggio(out, next, block[GATE_TIME]);
-    put_foot(out, next)
+    put_foot(out, next, file)
 }
 
-// Writes a block's page from the buffer's start on, and answers where it ends. Where `older` is a block too, its curves lie beneath. A block of another length writes nothing.
-pub fn page(older: &[u8], block: &[u8], out: &mut [u8]) -> usize
-    ensures { λ r. ⌜ Puts (now (out .entry)) 0 (pageText (now (older .entry)) (now (block .entry))) (now (out .exit)) r ⌝ }
+// Writes a block's page from the buffer's start on, and answers where it ends. `file` is the name of the block's file. Where `older` is a block too, its curves lie beneath.
+// A block of another length writes nothing.
+pub fn page(file: &[u8], older: &[u8], block: &[u8], out: &mut [u8]) -> usize
+    ensures { λ r. ⌜ Puts (now (out .entry)) 0 (pageText (now (file .entry)) (now (older .entry)) (now (block .entry))) (now (out .exit)) r ⌝ }
 {
     if block.len() != BLOCK {
         return 0;
     }
-    put_page(out, older, block)
+    put_page(out, file, older, block)
 }

@@ -63,5 +63,5 @@ panelsText older block (suc k) = panelsText older block k ++ panelText older blo
 -- The last panel: the bars of four steps, from the byte of the gates.
 unfoldable pub arpeggioText : ℕ → List ℕ
 arpeggioText b =
-    placeText 14 ++ titleText 14 ++ ascii "<text y='-2600'>4 steps, left edge fixed</text>" ++ barsText (barsOf (gatesOf b)) ++ stepsText ++ frameText ++
+    placeText 14 ++ titleText 14 ++ ascii "<text y='-2600'>4 steps, starts at the left edge</text>" ++ barsText (barsOf (gatesOf b)) ++ stepsText ++ frameText ++
     onlyDial (ascii "Gate time") b ++ panelEnd

@@ -121,7 +121,7 @@ pub fn put_arpeggio(out: &mut [u8], at: usize, time: u8) -> usize
     next = put(
         out,
         next,
-        b"<text y='-2600'>4 steps, left edge fixed</text>",
+        b"<text y='-2600'>4 steps, starts at the left edge</text>",
     );
     next = panel_marks::put_bars(out, next, bars);
     next = panel_marks::put_steps(out, next);

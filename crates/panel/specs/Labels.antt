@@ -28,8 +28,8 @@ scaleText (Octaves x) = decimalOf (nearestWhole x) ++ ascii " octaves, "
 
 -- Whether the left edge is a moment, or for a filter a frequency; a curve that runs free is caught anywhere.
 unfoldable pub edgeText : Bool → List ℕ
-edgeText true = ascii "left edge fixed</text>"
-edgeText false = ascii "left edge free</text>"
+edgeText true = ascii "starts at the left edge</text>"
+edgeText false = ascii "may start anywhere</text>"
 
 -- The line between the title and the frame.
 unfoldable pub subtitleText : Scale → Bool → List ℕ

@@ -48,9 +48,9 @@ fn put_edge(out: &mut [u8], at: usize, anchored: bool) -> usize
     ensures { λ r. ⌜ Puts (now (out .entry)) at (edgeText anchored) (now (out .exit)) r ⌝ }
 {
     if anchored {
-        return put(out, at, b"left edge fixed</text>");
+        return put(out, at, b"starts at the left edge</text>");
     }
-    put(out, at, b"left edge free</text>")
+    put(out, at, b"may start anywhere</text>")
 }
 
 pub fn put_subtitle(out: &mut [u8], at: usize, scale: Scale, anchored: bool) -> usize

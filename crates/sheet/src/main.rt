@@ -1,4 +1,5 @@
-// Reads a program's block from standard input and writes its page on standard output. Two blocks are an older program and the program: the older one's curves lie beneath.
+// Reads a program's block from standard input and writes its page on standard output; the argument is the name of the block's file, if it has one. Two blocks are an older program
+// and the program: the older one's curves lie beneath.
 ghost use mathlib.Core.Path.{_≡_};
 ghost use lib.ListN.{length};
 use block::BLOCK;
@@ -13,20 +14,23 @@ fn buffer() -> [u8; 262144]
 }
 
 // Where the page of a block, or of two, ends; 0 where there is none.
-fn write_page(blocks: &[u8], text: &mut [u8]) -> usize
+fn write_page(file: &[u8], blocks: &[u8], text: &mut [u8]) -> usize
     ensures { λ _. ⌜ length (now (text .exit)) ≡ length (now (text .entry)) ⌝ }
 {
     if blocks.len() == 2 * BLOCK {
-        return page::page(&blocks[..BLOCK], &blocks[BLOCK..], text);
+        return page::page(file, &blocks[..BLOCK], &blocks[BLOCK..], text);
     }
-    page::page(&blocks[..0], blocks, text)
+    page::page(file, &blocks[..0], blocks, text)
 }
 
 fn main() {
     let mut blocks = [0u8; 485];
     let n = io::read_full(STDIN_FILENO, &mut blocks);
+    // a file's name has at most 255 bytes
+    let mut file = [0u8; 256];
+    let named = os::arg(1, &mut file);
     let mut text = buffer();
-    let end = write_page(&blocks[..n], &mut text);
+    let end = write_page(&file[..named], &blocks[..n], &mut text);
     if end == 0 {
         io::write_all(STDOUT_FILENO, b"a block has 242 bytes\n");
         return;

@@ -6,7 +6,7 @@ use lib.Dec.{T}
 use Rattle.lists.proofs.Every.{every, each}
 use Rattle.text.specs.Text.{ascii}
 use Rattle.text.specs.Spelled.{glyphOf, digitsOf, placesFrom, decimalOf, hexOf, fixedOf}
-use Rattle.text.specs.Escaped.{upperOf, hexByteOf, shownOf, escapedOf, escapedAll, safe}
+use Rattle.text.specs.Escaped.{upperOf, hexByteOf, shownOf, escapedOf, allBy, escapedAll, shownAll, safe}
 
 -- A text is its codes.
 codes : ascii "<svg" ≡ 60 ∷ 115 ∷ 118 ∷ 103 ∷ []
@@ -43,8 +43,12 @@ many = refl
 
 -- a quote, an ampersand, a tab, a backslash, a byte of 255
 escapes : escapedAll (34 ∷ 38 ∷ 65 ∷ 9 ∷ 92 ∷ 255 ∷ []) ≡ ascii "&quot;&amp;A\\x09\\\\xFF"
-unfolding escapedAll escapedOf shownOf hexByteOf upperOf
+unfolding allBy escapedOf shownOf hexByteOf upperOf
 escapes = refl
+
+shows : shownAll (34 ∷ 38 ∷ 65 ∷ 9 ∷ 92 ∷ 255 ∷ []) ≡ ascii "\"&A\\x09\\\\xFF"
+unfolding allBy shownOf hexByteOf upperOf
+shows = refl
 
 -- Every byte escaped is one entity, or plain characters: computed, byte by byte.
 pub escaped-safe : (b : ℕ) → b < 256 → T (safe (escapedOf b))

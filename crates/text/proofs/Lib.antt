@@ -1,5 +1,6 @@
 -- The laws of writing.
 pub mod Writing
+pub mod EachByte
 pub mod Digits
 pub mod Words
 pub mod Whole

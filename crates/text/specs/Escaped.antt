@@ -26,10 +26,17 @@ escapedOf b =
     (cond (eqb b 34) (ascii "&quot;")
     (cond (eqb b 39) (ascii "&#39;") (shownOf b)))))
 
--- Each byte of a text so.
-unfoldable pub escapedAll : List ℕ → List ℕ
-escapedAll [] = []
-escapedAll (b ∷ text) = escapedOf b ++ escapedAll text
+-- Each byte of a text by f, one after the other.
+unfoldable pub allBy : (ℕ → List ℕ) → List ℕ → List ℕ
+allBy f [] = []
+allBy f (b ∷ text) = f b ++ allBy f text
+
+-- A text as XML, and as a line that can be read.
+abbrev pub escapedAll : List ℕ → List ℕ
+escapedAll text = allBy escapedOf text
+
+abbrev pub shownAll : List ℕ → List ℕ
+shownAll text = allBy shownOf text
 
 -- ---- what is safe as XML text
 -- A printable character that has no meaning of its own in XML.

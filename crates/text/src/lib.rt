@@ -4,7 +4,7 @@ ghost use mathlib.Core.List.{[], _∷_};
 ghost use Prim.Native.Nat.{_+_, _-_, _^_, _<_, _≤_};
 ghost use Rattle.text.specs.Text.{Puts};
 ghost use Rattle.text.specs.Spelled.{glyphOf, digitsOf, digitCount, decimalOf, hexOf, fixedOf};
-ghost use Rattle.text.specs.Escaped.{upperOf, hexByteOf, shownOf, escapedOf, escapedAll};
+ghost use Rattle.text.specs.Escaped.{upperOf, hexByteOf, shownOf, escapedOf, escapedAll, shownAll};
 ghost use Rattle.text.specs.Words.{firstWord, pastBar, wordOf, indexOf};
 ghost use lib.ListN.{drop};
 use lists::at_most;
@@ -173,6 +173,19 @@ pub fn put_escaped_all(out: &mut [u8], at: usize, text: &[u8]) -> usize
     let mut i: usize = 0;
     while i < text.len() {
         next = put_escaped(out, next, text[i]);
+        i += 1;
+    }
+    next
+}
+
+// Any bytes as a line that can be read.
+pub fn put_shown_all(out: &mut [u8], at: usize, text: &[u8]) -> usize
+    ensures { λ r. ⌜ Puts (now (out .entry)) at (shownAll (now (text .entry))) (now (out .exit)) r ⌝ }
+{
+    let mut next = at;
+    let mut i: usize = 0;
+    while i < text.len() {
+        next = put_shown(out, next, text[i]);
         i += 1;
     }
     next

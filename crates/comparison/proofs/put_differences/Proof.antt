@@ -1,8 +1,7 @@
 -- `put_differences` puts `differencesText`: nothing where a length is another. Assumes nothing.
-use mathlib.Core.Path.{refl}
 use borrow.Author.Tests.{eq-eqb, ne-eqb}
-use Rattle.text.proofs.Writing.{_⨾_, puts-none}
-use Rattle.comparison.specs.Differences.{programsText, differencesText}
+use Rattle.text.proofs.Writing.{puts-none}
+use Rattle.comparison.specs.Differences.{differencesText}
 use borrow.Author.Needs.{needs}
 use Rattle.comparison.proofs.put_differences.Statement.{statement}
 use Rattle.comparison.proofs.put_differences.Tie as tie
@@ -16,27 +15,8 @@ unfolding differencesText
 returns-2 c = simp (eq-eqb _ _ (c .before .if1 .left), ne-eqb _ _ (c .if2 .taken)) (puts-none _ _)
 
 returns-3 : tie.Need-returns-3
-unfolding programsText differencesText
-returns-3 c =
-    simp (eq-eqb _ _ (c .before .before .before .before .before .before .before .before .before .before .before .before .before .before .before .before .before .before .before .before .if1 .left), eq-eqb _ _ (c .before .before .before .before .before .before .before .before .before .before .before .before .before .before .before .before .before .before .before .if2 .left), ← c .before .before .before .before .before .before .before .before .before .count-codes .ensures .0, ← c .before .before .before .before .before .before .before .before .count-gate .ensures .0)
-    (c .before .before .before .before .before .before .before .before .before .before .before .before .before .before .before .before .before .put-codes .ensures ⨾
-    c .before .before .before .before .before .before .before .before .before .before .before .before .before .put-gate .ensures ⨾
-    c .before .before .before .before .before .before .before .put-decimal .ensures ⨾
-    c .before .before .put .ensures)
+unfolding differencesText
+returns-3 c = simp (eq-eqb _ _ (c .before .before .before .before .before .if1 .left), eq-eqb _ _ (c .before .before .before .before .if2 .left)) (c .before .before .put-programs .ensures)
 
 pub put-differences-spec : {M : Type 1} → statement M
-put-differences-spec =
-    tie.close
-    (tie.spec
-    returns
-    returns-2
-    (λ c κs. search needs)
-    (λ c κs. search needs)
-    (λ c κs. search needs)
-    (λ c κs. search needs)
-    (λ c. search needs)
-    (λ c κs. search needs)
-    (λ c. refl)
-    (λ c κs. search needs)
-    (λ c. search needs)
-    returns-3)
+put-differences-spec = tie.close (tie.spec returns returns-2 (λ c κs. search needs) (λ c. search needs) returns-3)

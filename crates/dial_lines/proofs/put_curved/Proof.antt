@@ -9,10 +9,10 @@ use Rattle.dial_lines.proofs.put_curved.Tie as tie
 returns : tie.Need-returns
 unfolding curvedDial
 returns c =
-    c .before .before .before .before .before .before .before .before .before .before .before .before .before .before .before .start .ensures ⨾
-    c .before .before .before .before .before .before .before .before .before .before .put .ensures ⨾
-    c .before .before .before .before .before .before .put-decimal .ensures ⨾
-    c .before .before .end .ensures
+    c .before .before .before .before .before .before .before .before .before .before .before .before .before .before .before .before .start .ensures ⨾
+    c .before .before .before .before .before .before .before .before .before .before .before .put .ensures ⨾
+    c .before .before .before .before .before .before .before .put-decimal .ensures ⨾
+    c .before .before .put2 .ensures
 
 pub put-curved-spec : {M : Type 1} → statement M
 put-curved-spec =
@@ -22,6 +22,7 @@ put-curved-spec =
     (λ c. refl)
     (λ c κs. search needs)
     (λ c κs. search needs)
+    (λ c. refl)
     (λ c κs. search needs)
     (λ c. search needs)
     returns)

@@ -44,7 +44,7 @@ put-dials-spec =
     (λ c. search needs)
     (λ c. simp (c .before .before .before .before .before .before .code2 .given .1) (rw (c .before .before .before .lfo-first .ensures .0) at (c .before .before .lfo-dials .ensures)))
     (λ c. search needs)
-    (λ c. simp (c .before .before .before .before .before .before .code3 .given .1) (rw (c .before .before .before .lfo-first2 .ensures .0) at (c .before .before .lfo-dials2 .ensures)))
+    (λ c. simp (c .before .before .before .before .before .before .code3 .given .1) (rw (c .before .before .before .lfo-first2 .ensures .0) at (c .before .before .lfo-other-dials .ensures)))
     (λ c. search needs)
     (λ c. simp (c .before .before .before .before .before .before .before .before .code4 .given .1) (rw (c .before .before .before .before .before .before .fade-byte .ensures .0) at (c .before .before .put-dial .ensures)))
     (λ c. search needs)

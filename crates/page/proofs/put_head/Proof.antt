@@ -1,4 +1,4 @@
--- `put_head` writes `headText`. Assumes nothing.
+-- `put_head` writes `headText`: its parts, one after the other. Assumes nothing.
 use mathlib.Core.Path.{refl}
 use Rattle.text.proofs.Writing.{_⨾_}
 use Rattle.page.specs.Page.{headText}
@@ -9,14 +9,19 @@ use Rattle.page.proofs.put_head.Tie as tie
 returns : tie.Need-returns
 unfolding headText
 returns c =
-    c .before .before .before .before .before .before .before .before .before .before .before .put .ensures ⨾
-    c .before .before .before .before .before .before .before .put-escaped-all .ensures ⨾
-    c .before .before .put2 .ensures
+    c .before .before .before .before .before .before .before .before .before .before .before .before .before .before .before .before .before .before .before .before .put .ensures ⨾
+    c .before .before .before .before .before .before .before .before .before .before .before .before .before .before .before .before .put-name .ensures ⨾
+    c .before .before .before .before .before .before .before .before .before .before .before .put2 .ensures ⨾
+    c .before .before .before .before .before .before .before .put-name2 .ensures ⨾
+    c .before .before .put3 .ensures
 
 pub put-head-spec : {M : Type 1} → statement M
 put-head-spec =
     tie.close
     (tie.spec
+    (λ c. refl)
+    (λ c κs. search needs)
+    (λ c κs. search needs)
     (λ c. refl)
     (λ c κs. search needs)
     (λ c κs. search needs)

@@ -1,4 +1,4 @@
--- `put_page` writes `pageOf`: style, head, panels, arpeggio and foot. Assumes nothing.
+-- `put_page` writes `pageOf`: its parts, one after the other. Assumes nothing.
 use Rattle.text.proofs.Writing.{_⨾_}
 use Rattle.page.specs.Page.{pageOf}
 use borrow.Author.Needs.{needs}
@@ -8,22 +8,17 @@ use Rattle.page.proofs.put_page.Tie as tie
 returns : tie.Need-returns
 unfolding pageOf
 returns c =
-    rw (c .before .before .before .before .before .before .before .before .before .before .before .before .before .before .before .before .before .before .before .before .before .before .name-end .ensures .0) at
-    (c .before .before .before .before .before .before .before .before .before .before .before .before .before .before .before .before .before .before .before .before .put-style .ensures ⨾
+    c .before .before .before .before .before .before .before .before .before .before .before .before .before .before .before .before .before .before .before .put-style .ensures ⨾
     c .before .before .before .before .before .before .before .before .before .before .before .before .before .before .before .put-head .ensures ⨾
     c .before .before .before .before .before .before .before .before .before .before .before .put-panels .ensures ⨾
     c .before .before .before .before .before .before .put-arpeggio .ensures ⨾
-    c .before .before .put-foot .ensures)
+    c .before .before .put-foot .ensures
 
 pub put-page-spec : {M : Type 1} → statement M
 put-page-spec =
     tie.close
     (tie.spec
     (λ c κs. search needs)
-    (λ c κs. search needs)
-    (λ c. search needs)
-    (λ c. search needs)
-    (λ c. search needs)
     (λ c κs. search needs)
     (λ c κs. search needs)
     (λ c. search needs)

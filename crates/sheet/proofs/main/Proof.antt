@@ -9,7 +9,7 @@ use Rattle.sheet.proofs.main.Tie as tie
 slice-aggregate-write-all-2 : tie.Need-slice-aggregate-write-all-2
 slice-aggregate-write-all-2 c =
     let n = c .before .before .before .before .write-page .result in
-    let text = c .before .before .before .before .write-page .last .1 .0 in
+    let text = c .before .before .before .before .write-page .last .1 .1 .0 in
     let fits : n ≤ length text = omega (arith, c .before .before .before .before .write-page .ensures) in
     simp length-take (omega arith)
 
@@ -19,7 +19,11 @@ main-spec =
     (tie.spec
     (λ c. search needs)
     (λ c κs. search needs)
+    (λ c. search needs)
     (λ c κs. search needs)
+    (λ c κs. search needs)
+    (λ c. search needs)
+    (λ c. search needs)
     (λ c. search needs)
     (λ c. search needs)
     (λ c. search needs)

@@ -9,7 +9,7 @@ use Rattle.sheet.proofs.write_page.Tie as tie
 
 slice-aggregate-page : tie.Need-slice-aggregate-page
 slice-aggregate-page c =
-    let h : 242 ≤ length (c .before .before .before .before .args .blocks .now) = omega arith in
+    let h : 242 ≤ length (c .before .before .before .before .before .args .blocks .now) = omega arith in
     simp length-take (omega arith)
 
 returns : tie.Need-returns

@@ -4,10 +4,10 @@ use Prim.Native.Nat.{suc, _+_, _-_, _≤_}
 use native.Mathlib.Numerals.{add-one}
 use native.Mathlib.Omega.{arith}
 use borrow.Author.Needs.{needs}
-use Rattle.page.specs.Page.{endFrom, nameEnd}
-use Rattle.page.proofs.NameEnd.{end-none, end-here, end-next}
-use Rattle.page.proofs.name_end.Statement.{statement}
-use Rattle.page.proofs.name_end.Tie as tie
+use Rattle.program_name.specs.ProgramName.{endFrom, nameEnd}
+use Rattle.program_name.proofs.NameEnd.{end-none, end-here, end-next}
+use Rattle.program_name.proofs.name_end.Statement.{statement}
+use Rattle.program_name.proofs.name_end.Tie as tie
 
 abbrev Inv-loop : tie.InvT-loop
 Inv-loop block i₀ i = (223 ≤ i) × (i ≤ 240) × (endFrom block (240 - i) i ≡ nameEnd block)

@@ -4,7 +4,7 @@ use mathlib.Core.List.{List}
 use Prim.Native.Nat.{ℕ, zero, suc}
 use borrow.Author.Tests.{ne-eqb}
 use Rattle.codes.specs.Bytes.{byteAt}
-use Rattle.page.specs.Page.{endFrom}
+use Rattle.program_name.specs.ProgramName.{endFrom}
 
 pub end-none : (block : List ℕ) (i : ℕ) → endFrom block 0 i ≡ i
 unfolding endFrom

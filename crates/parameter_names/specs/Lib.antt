@@ -1,0 +1,2 @@
+-- The names of the parameters.
+pub mod ParameterNames

@@ -1,0 +1,2 @@
+-- The program's name.
+pub mod ProgramName

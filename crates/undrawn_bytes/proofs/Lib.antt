@@ -1,0 +1,3 @@
+-- What the loops need.
+pub mod Drawn
+pub mod ByteLines

@@ -1,0 +1,2 @@
+-- The bytes that no curve draws.
+pub mod Undrawn
