@@ -7,10 +7,5 @@ use Rattle.abi.proofs.lfo_numbers.Tie as tie
 
 pub lfo-numbers-spec : {M : Type 1} → statement M
 unfolding settingsNumbers storedSettings settingsList padded
-lfo-numbers-spec =
-    tie.close
-    (tie.spec
-    (λ c κs. search needs)
-    (λ c κs. search needs)
-    (λ c κs. search needs)
+lfo-numbers-spec = tie.close (tie.spec (λ c κs. search needs) (λ c κs. search needs) (λ c κs. search needs)
     (λ c. simp (c .flag2 .ensures, c .before .flag .ensures, c .before .before .shape-number .ensures)))

@@ -7,20 +7,9 @@ use Rattle.abi.proofs.settings_numbers.Tie as tie
 pub settings-numbers-spec : {M : Type 1} → statement M
 unfolding settingsNumbers settingsList
 settings-numbers-spec =
-    tie.close
-    (tie.spec
-    (λ c. search needs)
-    (λ c κs. search needs)
-    (λ c. search needs)
-    (λ c κs. search needs)
-    (λ c. search needs)
-    (λ c κs. search needs)
-    (λ c. search needs)
-    (λ c κs. search needs)
-    (λ c. search needs)
-    (λ c κs. search needs)
-    (λ c. search needs)
-    (λ c κs. search needs)
+    tie.close (tie.spec (λ c. search needs) (λ c κs. search needs) (λ c. search needs) (λ c κs. search needs)
+    (λ c. search needs) (λ c κs. search needs) (λ c. search needs) (λ c κs. search needs) (λ c. search needs)
+    (λ c κs. search needs) (λ c. search needs) (λ c κs. search needs)
     (λ c. simp (c .envelope-numbers .ensures, c .before .before .shape .given .1))
     (λ c. simp (c .one-number .ensures, c .before .before .shape2 .given .1))
     (λ c. simp (c .lfo-numbers .ensures, c .before .before .shape3 .given .1))

@@ -9,11 +9,6 @@ use Rattle.api.proofs.anchored.Tie as tie
 pub anchored-spec : {M : Type 1} → statement M
 unfolding anchoredAnswer
 anchored-spec =
-    tie.close
-    (tie.spec
-    (λ c κs. search needs)
-    (λ c. search needs)
-    (λ c κs. search needs)
-    (λ c. search needs)
+    tie.close (tie.spec (λ c κs. search needs) (λ c. search needs) (λ c κs. search needs) (λ c. search needs)
     (λ c. answered anchored-refused (simp (sym (c .before .before .before .before .choose .ensures), c .before .before .chosen .given .1, c .anchored .ensures)))
     (λ c. answered anchored-refused (simp (sym (c .before .before .before .choose .ensures), c .before .chosen2 .given .1))))

@@ -8,11 +8,7 @@ use Rattle.api.proofs.gates.Tie as tie
 
 pub gates-spec : {M : Type 1} → statement M
 unfolding gatesAnswer
-gates-spec =
-    tie.close
-    (tie.spec
-    (λ c κs. search needs)
+gates-spec = tie.close (tie.spec (λ c κs. search needs)
     (λ c. gates-answered (simp (ne-eqb _ _ (c .before .if1 .taken), c .arpeggiator-gates .ensures)))
-    (λ c. search needs)
-    (λ c κs. search needs)
+    (λ c. search needs) (λ c κs. search needs)
     (λ c. gates-answered (simp (eq-eqb _ _ (c .before .before .if1 .left), c .arpeggiator-gates2 .ensures))))

@@ -8,13 +8,7 @@ use Rattle.api.proofs.marks.Tie as tie
 
 pub marks-spec : {M : Type 1} → statement M
 unfolding marksAnswer
-marks-spec =
-    tie.close
-    (tie.spec
-    (λ c κs. search needs)
-    (λ c. search needs)
-    (λ c κs. search needs)
-    (λ c. search needs)
+marks-spec = tie.close (tie.spec (λ c κs. search needs) (λ c. search needs) (λ c κs. search needs) (λ c. search needs)
     (λ c κs. search needs)
     (λ c. answered marks-refused (simp (sym (c .before .before .before .before .choose .ensures), c .before .before .chosen .given .1, c .marks .ensures)))
     (λ c. answered marks-refused (simp (sym (c .before .before .before .before .choose .ensures), c .before .before .chosen2 .given .1, c .no-marks .ensures))))

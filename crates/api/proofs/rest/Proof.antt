@@ -8,12 +8,6 @@ use Rattle.api.proofs.rest.Tie as tie
 
 pub rest-spec : {M : Type 1} → statement M
 unfolding restAnswer
-rest-spec =
-    tie.close
-    (tie.spec
-    (λ c κs. search needs)
-    (λ c. search needs)
-    (λ c κs. search needs)
-    (λ c. search needs)
+rest-spec = tie.close (tie.spec (λ c κs. search needs) (λ c. search needs) (λ c κs. search needs) (λ c. search needs)
     (λ c. answered rest-refused (simp (sym (c .before .before .before .before .choose .ensures), c .before .before .chosen .given .1, c .rest .ensures)))
     (λ c. answered rest-refused (simp (sym (c .before .before .before .choose .ensures), c .before .chosen2 .given .1))))

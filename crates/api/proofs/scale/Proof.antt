@@ -8,12 +8,6 @@ use Rattle.api.proofs.scale.Tie as tie
 
 pub scale-spec : {M : Type 1} → statement M
 unfolding scaleAnswer
-scale-spec =
-    tie.close
-    (tie.spec
-    (λ c κs. search needs)
-    (λ c. search needs)
-    (λ c κs. search needs)
-    (λ c. search needs)
+scale-spec = tie.close (tie.spec (λ c κs. search needs) (λ c. search needs) (λ c κs. search needs) (λ c. search needs)
     (λ c. answered scale-refused (simp (sym (c .before .before .before .before .choose .ensures), c .before .before .chosen .given .1, c .scale .ensures)))
     (λ c. answered scale-refused (simp (sym (c .before .before .before .choose .ensures), c .before .chosen2 .given .1))))

@@ -8,11 +8,6 @@ use Rattle.api.proofs.settings.Tie as tie
 
 pub settings-spec : {M : Type 1} → statement M
 unfolding settingsAnswer
-settings-spec =
-    tie.close
-    (tie.spec
-    (λ c κs. search needs)
-    (λ c. search needs)
-    (λ c. search needs)
+settings-spec = tie.close (tie.spec (λ c κs. search needs) (λ c. search needs) (λ c. search needs)
     (λ c. answered settings-refused (simp (sym (c .before .before .before .choose .ensures), c .before .chosen .given .1)))
     (λ c. answered settings-refused (simp (sym (c .before .before .before .choose .ensures), c .before .chosen2 .given .1))))

@@ -25,12 +25,5 @@ returns-2 c =
     (simp (sym (c .before .before .before .settle .ensures), c .before .settled2 .given .1))
 
 pub height-spec : {M : Type 1} → statement M
-height-spec =
-    tie.close
-    (tie.spec
-    (λ c κs. search needs)
-    (λ c. search needs)
-    height-at-requires
-    (λ c. search needs)
-    returns
-    returns-2)
+height-spec = tie.close
+    (tie.spec (λ c κs. search needs) (λ c. search needs) height-at-requires (λ c. search needs) returns returns-2)

@@ -6,15 +6,7 @@ use Rattle.block.proofs.lfo_at.Tie as tie
 
 pub lfo-at-spec : {M : Type 1} → statement M
 unfolding lfoAt
-lfo-at-spec =
-    tie.close
-    (tie.spec
-    (λ c κs. search needs)
-    (λ c. search needs)
-    (λ c. search needs)
-    (λ c. search needs)
-    (λ c. search needs)
-    (λ c. search needs)
-    (λ c. search needs)
-    (λ c κs. search needs)
+lfo-at-spec = tie.close
+    (tie.spec (λ c κs. search needs) (λ c. search needs) (λ c. search needs) (λ c. search needs) (λ c. search needs)
+    (λ c. search needs) (λ c. search needs) (λ c κs. search needs)
     (λ c. simp (c .before .before .before .before .lfo-first .ensures .0, c .lfo-from .ensures)))

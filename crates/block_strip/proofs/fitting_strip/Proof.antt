@@ -33,13 +33,6 @@ returns-2 c =
     (simp (settled, refused), simp (settled, refused))
 
 pub fitting-strip-spec : {M : Type 1} → statement M
-fitting-strip-spec =
-    tie.close
-    (tie.spec
-    (λ c κs. search needs)
-    (λ c. search needs)
-    strip-at-requires
-    (λ c. search needs)
-    (λ c. search needs)
-    returns
-    returns-2)
+fitting-strip-spec = tie.close
+    (tie.spec (λ c κs. search needs) (λ c. search needs) strip-at-requires (λ c. search needs) (λ c. search needs)
+    returns returns-2)

@@ -7,14 +7,7 @@ use Rattle.block_strip.proofs.strip_envelope.Tie as tie
 
 pub strip-envelope-spec : {M : Type 1} → statement M
 unfolding shapeOf
-strip-envelope-spec =
-    tie.close
-    (tie.spec
-    (λ c κs. search needs)
-    (λ c κs. search needs)
-    (λ c. search needs)
+strip-envelope-spec = tie.close (tie.spec (λ c κs. search needs) (λ c κs. search needs) (λ c. search needs)
     (λ c. simp (sym (c .before .before .before .before .envelope-at .ensures)) (c .before .before .fill-envelope .ensures))
-    (λ c κs. search needs)
-    (λ c κs. search needs)
-    (λ c. search needs)
+    (λ c κs. search needs) (λ c κs. search needs) (λ c. search needs)
     (λ c. simp (sym (c .before .before .before .before .envelope-at2 .ensures)) (c .before .before .fill-wide-envelope .ensures)))

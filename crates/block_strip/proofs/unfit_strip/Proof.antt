@@ -8,11 +8,6 @@ use Rattle.block_strip.proofs.unfit_strip.Tie as tie
 
 pub unfit-strip-spec : {M : Type 1} → statement M
 unfolding chosenOf chosenBy stripAnswer
-unfit-strip-spec =
-    tie.close
-    (tie.spec
-    (λ c κs. search needs)
-    (λ c. search needs)
-    (λ c. search needs)
+unfit-strip-spec = tie.close (tie.spec (λ c κs. search needs) (λ c. search needs) (λ c. search needs)
     (λ c. simp (sym (c .before .before .settle .ensures), c .enum-told .given .1))
     (λ c. simp (sym (c .before .before .before .settle .ensures), c .before .settled .given .1)))

@@ -12,5 +12,4 @@ returns-2 : tie.Need-returns-2
 returns-2 c = caption-later (envelopeMarks (c .before .before .before .args .e)) _ _ _ (c .before .before .if1 .left) (c .before .sample-position .ensures) (c .segment-at .ensures)
 
 pub caption-of-spec : {M : Type 1} → statement M
-caption-of-spec =
-    tie.close (tie.spec returns (λ c κs. search needs) (λ c κs. search needs) returns-2)
+caption-of-spec = tie.close (tie.spec returns (λ c κs. search needs) (λ c κs. search needs) returns-2)

@@ -7,10 +7,5 @@ use Rattle.checklist_rows.proofs.both_edges.Tie as tie
 
 pub both-edges-spec : {M : Type 1} → statement M
 unfolding edgesRow
-both-edges-spec =
-    tie.close
-    (tie.spec
-    (λ c κs. search needs)
-    (λ c κs. search needs)
-    (λ c κs. search needs)
+both-edges-spec = tie.close (tie.spec (λ c κs. search needs) (λ c κs. search needs) (λ c κs. search needs)
     (λ c. row-of-both _ _ (c .before .before .start .ensures) (c .before .note-kind .ensures) (c .note-kind2 .ensures)))

@@ -7,10 +7,5 @@ use Rattle.checklist_rows.proofs.every_shape_byte.Tie as tie
 
 pub every-shape-byte-spec : {M : Type 1} → statement M
 unfolding shapesRow
-every-shape-byte-spec =
-    tie.close
-    (tie.spec
-    (λ c κs. search needs)
-    (λ c κs. search needs)
-    (λ c κs. search needs)
+every-shape-byte-spec = tie.close (tie.spec (λ c κs. search needs) (λ c κs. search needs) (λ c κs. search needs)
     (λ c. row-of-both _ _ (c .before .before .start .ensures) (c .before .note-kind .ensures) (c .note-kind2 .ensures)))

@@ -19,15 +19,7 @@ loop-again : tie.Need-loop-again Inv-loop μ-loop
 loop-again c = (search needs, one-noted _ _ _ (c .before .before .before .loop .inv .1) (c .before .trial .ensures) (c .note .ensures))
 
 pub note-kind-spec : {M : Type 1} → statement M
-note-kind-spec =
-    tie.close
-    (tie.spec
-    Inv-loop
-    μ-loop
-    (λ c. (search needs, none-noted _ _))
-    (λ c κs. search needs)
-    (λ c κs. search needs)
-    (λ c. search needs)
-    (λ c. search needs)
-    loop-again
+note-kind-spec = tie.close
+    (tie.spec Inv-loop μ-loop (λ c. (search needs, none-noted _ _)) (λ c κs. search needs) (λ c κs. search needs)
+    (λ c. search needs) (λ c. search needs) loop-again
     (λ c. all-noted _ _ _ _ (c .before .loop .inv .0) (c .loop-test .left) (c .before .loop .inv .1)))

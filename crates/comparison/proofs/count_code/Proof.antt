@@ -18,13 +18,6 @@ unfolding codeCount
 returns-3 c = (simp (sym (c .before .before .code-from .ensures), c .enum-told .given .1), search needs)
 
 pub count-code-spec : {M : Type 1} → statement M
-count-code-spec =
-    tie.close
-    (tie.spec
-    (λ c κs. search needs)
-    (λ c. search needs)
-    (λ c κs. search needs)
-    returns
-    (λ c. search needs)
-    returns-2
+count-code-spec = tie.close
+    (tie.spec (λ c κs. search needs) (λ c. search needs) (λ c κs. search needs) returns (λ c. search needs) returns-2
     returns-3)

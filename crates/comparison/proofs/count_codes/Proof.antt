@@ -25,14 +25,5 @@ returns c = (all-counted _ _ _ _ _ (c .before .loop .inv .0) (c .loop-test .left
 
 pub count-codes-spec : {M : Type 1} → statement M
 count-codes-spec =
-    tie.close
-    (tie.spec
-    Inv-loop
-    μ-loop
-    loop-holds
-    (λ c κs. search needs)
-    (λ c. search needs)
-    (λ c. search needs)
-    (λ c. search needs)
-    loop-again
-    returns)
+    tie.close (tie.spec Inv-loop μ-loop loop-holds (λ c κs. search needs) (λ c. search needs) (λ c. search needs)
+    (λ c. search needs) loop-again returns)

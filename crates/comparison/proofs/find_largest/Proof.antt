@@ -25,14 +25,5 @@ returns c = whole-strip _ _ _ _ _ (c .before .loop .inv .0) (c .loop-test .left)
 
 pub find-largest-spec : {M : Type 1} → statement M
 find-largest-spec =
-    tie.close
-    (tie.spec
-    Inv-loop
-    μ-loop
-    loop-holds
-    (λ c κs. search needs)
-    (λ c κs. search needs)
-    (λ c. search needs)
-    (λ c. search needs)
-    loop-again
-    returns)
+    tie.close (tie.spec Inv-loop μ-loop loop-holds (λ c κs. search needs) (λ c κs. search needs) (λ c. search needs)
+    (λ c. search needs) loop-again returns)

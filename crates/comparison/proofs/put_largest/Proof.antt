@@ -18,16 +18,5 @@ returns c = simp (← c .before .before .before .before .before .before .before 
 
 pub put-largest-spec : {M : Type 1} → statement M
 put-largest-spec =
-    tie.close
-    (tie.spec
-    (λ c. refl)
-    (λ c κs. search needs)
-    (λ c κs. search needs)
-    (λ c. refl)
-    (λ c κs. search needs)
-    (λ c κs. search needs)
-    (λ c κs. search needs)
-    (λ c. refl)
-    (λ c κs. search needs)
-    (λ c. search needs)
-    returns)
+    tie.close (tie.spec (λ c. refl) (λ c κs. search needs) (λ c κs. search needs) (λ c. refl) (λ c κs. search needs)
+    (λ c κs. search needs) (λ c κs. search needs) (λ c. refl) (λ c κs. search needs) (λ c. search needs) returns)

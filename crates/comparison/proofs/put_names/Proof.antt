@@ -16,18 +16,6 @@ returns c =
     c .before .before .put3 .ensures
 
 pub put-names-spec : {M : Type 1} → statement M
-put-names-spec =
-    tie.close
-    (tie.spec
-    (λ c. refl)
-    (λ c κs. search needs)
-    (λ c. refl)
-    (λ c κs. search needs)
-    (λ c. refl)
-    (λ c κs. search needs)
-    (λ c. refl)
-    (λ c κs. search needs)
-    (λ c. refl)
-    (λ c κs. search needs)
-    (λ c. search needs)
-    returns)
+put-names-spec = tie.close
+    (tie.spec (λ c. refl) (λ c κs. search needs) (λ c. refl) (λ c κs. search needs) (λ c. refl) (λ c κs. search needs)
+    (λ c. refl) (λ c κs. search needs) (λ c. refl) (λ c κs. search needs) (λ c. search needs) returns)

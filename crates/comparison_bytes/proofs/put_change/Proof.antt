@@ -23,20 +23,7 @@ returns-2 c = simp (ne-eqb _ _ (c .before .before .before .before .before .befor
     c .before .before .put4 .ensures)
 
 pub put-change-spec : {M : Type 1} → statement M
-put-change-spec =
-    tie.close
-    (tie.spec
-    returns
-    (λ c. refl)
-    (λ c κs. search needs)
-    (λ c κs. search needs)
-    (λ c. refl)
-    (λ c κs. search needs)
-    (λ c κs. search needs)
-    (λ c. refl)
-    (λ c κs. search needs)
-    (λ c κs. search needs)
-    (λ c. refl)
-    (λ c κs. search needs)
-    (λ c. search needs)
-    returns-2)
+put-change-spec = tie.close
+    (tie.spec returns (λ c. refl) (λ c κs. search needs) (λ c κs. search needs) (λ c. refl) (λ c κs. search needs)
+    (λ c κs. search needs) (λ c. refl) (λ c κs. search needs) (λ c κs. search needs) (λ c. refl)
+    (λ c κs. search needs) (λ c. search needs) returns-2)

@@ -7,12 +7,7 @@ use Rattle.comparison_bytes.proofs.put_code_changes.Statement.{statemen
 use Rattle.comparison_bytes.proofs.put_code_changes.Tie as tie
 
 pub put-code-changes-spec : {M : Type 1} → statement M
-put-code-changes-spec =
-    tie.close
-    (tie.spec
-    (λ c κs. search needs)
-    (λ c. c .before .before .bytes-of .ensures .0)
+put-code-changes-spec = tie.close (tie.spec (λ c κs. search needs) (λ c. c .before .before .bytes-of .ensures .0)
     (λ c. simp length-take (omega (arith, c .before .before .before .bytes-of .ensures .0)))
-    (λ c κs. search needs)
-    (λ c. search needs)
+    (λ c κs. search needs) (λ c. search needs)
     (λ c. rw (sym (c .before .before .before .before .before .before .bytes-of .ensures .1)) (c .before .before .put-changes .ensures)))

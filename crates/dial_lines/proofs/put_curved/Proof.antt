@@ -16,13 +16,5 @@ returns c =
 
 pub put-curved-spec : {M : Type 1} → statement M
 put-curved-spec =
-    tie.close
-    (tie.spec
-    (λ c κs. search needs)
-    (λ c. refl)
-    (λ c κs. search needs)
-    (λ c κs. search needs)
-    (λ c. refl)
-    (λ c κs. search needs)
-    (λ c. search needs)
-    returns)
+    tie.close (tie.spec (λ c κs. search needs) (λ c. refl) (λ c κs. search needs) (λ c κs. search needs) (λ c. refl)
+    (λ c κs. search needs) (λ c. search needs) returns)

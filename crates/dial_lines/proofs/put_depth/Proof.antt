@@ -14,12 +14,6 @@ returns c =
     c .before .before .end .ensures
 
 pub put-depth-spec : {M : Type 1} → statement M
-put-depth-spec =
-    tie.close
-    (tie.spec
-    (λ c. refl)
-    (λ c κs. search needs)
-    (λ c κs. search needs)
-    (λ c κs. search needs)
-    (λ c. search needs)
+put-depth-spec = tie.close
+    (tie.spec (λ c. refl) (λ c κs. search needs) (λ c κs. search needs) (λ c κs. search needs) (λ c. search needs)
     returns)

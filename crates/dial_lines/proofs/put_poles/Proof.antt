@@ -14,12 +14,6 @@ returns c =
     c .before .before .end .ensures
 
 pub put-poles-spec : {M : Type 1} → statement M
-put-poles-spec =
-    tie.close
-    (tie.spec
-    (λ c. refl)
-    (λ c κs. search needs)
-    (λ c κs. search needs)
-    (λ c κs. search needs)
-    (λ c. search needs)
+put-poles-spec = tie.close
+    (tie.spec (λ c. refl) (λ c κs. search needs) (λ c κs. search needs) (λ c κs. search needs) (λ c. search needs)
     returns)

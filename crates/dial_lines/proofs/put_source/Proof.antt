@@ -14,12 +14,6 @@ returns c =
     c .before .before .end .ensures
 
 pub put-source-spec : {M : Type 1} → statement M
-put-source-spec =
-    tie.close
-    (tie.spec
-    (λ c. refl)
-    (λ c κs. search needs)
-    (λ c κs. search needs)
-    (λ c κs. search needs)
-    (λ c. search needs)
+put-source-spec = tie.close
+    (tie.spec (λ c. refl) (λ c κs. search needs) (λ c κs. search needs) (λ c κs. search needs) (λ c. search needs)
     returns)

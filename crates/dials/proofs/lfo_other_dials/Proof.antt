@@ -16,18 +16,6 @@ returns c =
 
 pub lfo-other-dials-spec : {M : Type 1} → statement M
 lfo-other-dials-spec =
-    tie.close
-    (tie.spec
-    (λ c. omega arith)
-    (λ c. omega arith)
-    (λ c κs. search needs)
-    (λ c. refl)
-    (λ c. omega arith)
-    (λ c. omega arith)
-    (λ c κs. search needs)
-    (λ c. refl)
-    (λ c. omega arith)
-    (λ c. omega arith)
-    (λ c κs. search needs)
-    (λ c. search needs)
-    returns)
+    tie.close (tie.spec (λ c. omega arith) (λ c. omega arith) (λ c κs. search needs) (λ c. refl) (λ c. omega arith)
+    (λ c. omega arith) (λ c κs. search needs) (λ c. refl) (λ c. omega arith) (λ c. omega arith) (λ c κs. search needs)
+    (λ c. search needs) returns)

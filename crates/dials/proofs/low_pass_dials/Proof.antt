@@ -14,13 +14,6 @@ returns c =
     c .before .before .put-poles .ensures
 
 pub low-pass-dials-spec : {M : Type 1} → statement M
-low-pass-dials-spec =
-    tie.close
-    (tie.spec
-    (λ c. refl)
-    (λ c. omega arith)
-    (λ c κs. search needs)
-    (λ c. omega arith)
-    (λ c κs. search needs)
-    (λ c. search needs)
-    returns)
+low-pass-dials-spec = tie.close
+    (tie.spec (λ c. refl) (λ c. omega arith) (λ c κs. search needs) (λ c. omega arith) (λ c κs. search needs)
+    (λ c. search needs) returns)

@@ -17,18 +17,6 @@ returns c =
 
 pub oscillator-dials-spec : {M : Type 1} → statement M
 oscillator-dials-spec =
-    tie.close
-    (tie.spec
-    (λ c. refl)
-    (λ c. omega arith)
-    (λ c κs. search needs)
-    (λ c. refl)
-    (λ c. omega arith)
-    (λ c κs. search needs)
-    (λ c. omega arith)
-    (λ c κs. search needs)
-    (λ c. omega arith)
-    (λ c. omega arith)
-    (λ c κs. search needs)
-    (λ c. search needs)
-    returns)
+    tie.close (tie.spec (λ c. refl) (λ c. omega arith) (λ c κs. search needs) (λ c. refl) (λ c. omega arith)
+    (λ c κs. search needs) (λ c. omega arith) (λ c κs. search needs) (λ c. omega arith) (λ c. omega arith)
+    (λ c κs. search needs) (λ c. search needs) returns)

@@ -6,10 +6,5 @@ use Rattle.envelope.proofs.envelope_height.Tie as tie
 
 pub envelope-height-spec : {M : Type 1} → statement M
 unfolding envelopeHeightOf
-envelope-height-spec =
-    tie.close
-    (tie.spec
-    (λ c κs. search needs)
-    (λ c κs. search needs)
-    (λ c κs. search needs)
+envelope-height-spec = tie.close (tie.spec (λ c κs. search needs) (λ c κs. search needs) (λ c κs. search needs)
     (λ c. simp (c .drawn .ensures, c .before .level .ensures, c .before .before .position .ensures)))

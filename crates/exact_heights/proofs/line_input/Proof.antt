@@ -7,11 +7,6 @@ use Rattle.exact_heights.proofs.line_input.Tie as tie
 pub line-input-spec : {M : Type 1} → statement M
 unfolding lineInput
 line-input-spec =
-    tie.close
-    (tie.spec
-    (λ c. search needs)
-    (λ c κs. search needs)
-    (λ c. search needs)
-    (λ c. search needs)
+    tie.close (tie.spec (λ c. search needs) (λ c κs. search needs) (λ c. search needs) (λ c. search needs)
     (λ c κs. search needs)
     (λ c. simp (c .low-word .ensures, c .before .before .before .code-of .ensures)))

@@ -6,10 +6,5 @@ use Rattle.filter.proofs.filter_height.Tie as tie
 
 pub filter-height-spec : {M : Type 1} → statement M
 unfolding filterHeightOf
-filter-height-spec =
-    tie.close
-    (tie.spec
-    (λ c κs. search needs)
-    (λ c κs. search needs)
-    (λ c κs. search needs)
+filter-height-spec = tie.close (tie.spec (λ c κs. search needs) (λ c κs. search needs) (λ c κs. search needs)
     (λ c. simp (c .before .before .position .ensures, c .before .level .ensures, c .drawn .ensures)))

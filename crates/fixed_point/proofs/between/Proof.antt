@@ -20,14 +20,7 @@ tested c = range _ (level (c .before)) (c .if1 .left)
 
 pub between-spec : {M : Type 1} → statement M
 unfolding ofBits
-between-spec =
-    tie.close
-    (tie.spec
-    (λ c κs. search needs)
-    (λ c. search needs)
-    (λ c. level-number _ (level (c .before)))
-    (λ c. search needs)
-    (λ c. search needs)
-    (λ c. omega (arith, tested c .high))
-    (λ c κs. (search needs, omega (arith, tested c .low)))
+between-spec = tie.close
+    (tie.spec (λ c κs. search needs) (λ c. search needs) (λ c. level-number _ (level (c .before))) (λ c. search needs)
+    (λ c. search needs) (λ c. omega (arith, tested c .high)) (λ c κs. (search needs, omega (arith, tested c .low)))
     (λ c. c .digits-between .ensures ∙ large _ _ _ (level (c .before .before)) (c .before .if1 .left) _ refl))

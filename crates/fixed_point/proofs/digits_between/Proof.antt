@@ -41,6 +41,5 @@ returns-3 c =
     (low-met _ _ _ (pow-pos (c .before .before .args .shift)) (simp (one-is _ (c .before .before .pre .1)) at (c .before .if1 .left)), high-met _ _ _ (pow-pos (c .before .before .args .shift)) (simp (one-is _ (c .before .before .pre .1)) at (c .if2 .left)))
 
 pub digits-between-spec : {M : Type 1} → statement M
-digits-between-spec =
-    tie.close
+digits-between-spec = tie.close
     (tie.spec (λ c. search needs) (λ c. search needs) div-if1 returns sub-if2 add-if2 div-if2 returns-2 returns-3)

@@ -41,14 +41,6 @@ returns-2 c =
     (rw (← c .before .before .position .ensures) e, rw e (at-most _ _ l))
 
 pub nearest-spec : {M : Type 1} → statement M
-nearest-spec =
-    tie.close
-    (tie.spec
-    (λ c κs. search needs)
-    returns
-    float-to-bits-bits
-    (λ c. search needs)
-    (λ c. search needs)
-    sub-rounded
-    rounded-requires
-    returns-2)
+nearest-spec = tie.close
+    (tie.spec (λ c κs. search needs) returns float-to-bits-bits (λ c. search needs) (λ c. search needs) sub-rounded
+    rounded-requires returns-2)

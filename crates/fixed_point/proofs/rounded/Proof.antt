@@ -19,6 +19,5 @@ digits-below : (c : tie.Start) → c .args .digits * c .args .n < 2 ^ 24 * 2 ^ 3
 digits-below c = product-below _ _ _ _ (c .pre .0) (c .pre .1)
 
 pub rounded-spec : {M : Type 1} → statement M
-rounded-spec =
-    tie.close
+rounded-spec = tie.close
     (tie.spec (λ c. search needs) (λ c. record { fits = omega (arith, digits-below c) }) (λ c. record { fits = omega (arith, digits-below c) }) (λ c. record { fits = omega (arith, digits-below c, half-is _ (c .pre .2), half-most _ (c .pre .2)) }) (λ c. record { fits = omega (arith, half-is _ (c .pre .2), half-most _ (c .pre .2)) }) (λ c. omega (arith, half-is _ (c .pre .2), pow-pos (c .args .shift))) (λ c. rw (half-is _ (c .pre .2))))

@@ -14,12 +14,6 @@ unfolding gatesOf
 returns-2 c = simp (ne-eqb _ _ (c .before .before .before .before .if1 .left), c .gate-at4 .ensures, c .before .gate-at3 .ensures, c .before .before .gate-at2 .ensures, c .before .before .before .gate-at .ensures)
 
 pub arpeggiator-gates-spec : {M : Type 1} → statement M
-arpeggiator-gates-spec =
-    tie.close
-    (tie.spec
-    returns
-    (λ c κs. search needs)
-    (λ c κs. search needs)
-    (λ c κs. search needs)
-    (λ c κs. search needs)
+arpeggiator-gates-spec = tie.close
+    (tie.spec returns (λ c κs. search needs) (λ c κs. search needs) (λ c κs. search needs) (λ c κs. search needs)
     returns-2)

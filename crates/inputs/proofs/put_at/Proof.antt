@@ -6,10 +6,5 @@ use Rattle.inputs.proofs.put_at.Statement.{statement}
 use Rattle.inputs.proofs.put_at.Tie as tie
 
 pub put-at-spec : {M : Type 1} → statement M
-put-at-spec =
-    tie.close
-    (tie.spec
-    (λ c. search needs)
-    (λ c. search needs)
-    (λ c. search needs)
-    (λ c. sym (set-out _ _ _ (c .if1 .left))))
+put-at-spec = tie.close
+    (tie.spec (λ c. search needs) (λ c. search needs) (λ c. search needs) (λ c. sym (set-out _ _ _ (c .if1 .left))))

@@ -10,12 +10,7 @@ use Rattle.inputs.proofs.put_bytes.Statement.{statement}
 use Rattle.inputs.proofs.put_bytes.Tie as tie
 
 pub put-bytes-spec : {M : Type 1} → statement M
-put-bytes-spec =
-    tie.close
-    (tie.spec
-    (λ c κs. search needs)
-    (λ c. c .before .before .bytes-of .ensures .0)
+put-bytes-spec = tie.close (tie.spec (λ c κs. search needs) (λ c. c .before .before .bytes-of .ensures .0)
     (λ c. simp length-take (omega (arith, c .before .before .before .bytes-of .ensures .0)))
-    (λ c κs. search needs)
-    (λ c. search needs)
+    (λ c κs. search needs) (λ c. search needs)
     (λ c. rw (← c .before .before .before .before .before .before .bytes-of .ensures .1) (c .before .before .put-places .ensures)))

@@ -8,12 +8,7 @@ use Rattle.inputs.proofs.put_input.Tie as tie
 pub put-input-spec : {M : Type 1} → statement M
 unfolding withBytes placesOf withInput
 put-input-spec =
-    tie.close
-    (tie.spec
-    (λ c κs. search needs)
-    (λ c. search needs)
-    (λ c κs. search needs)
-    (λ c. search needs)
+    tie.close (tie.spec (λ c κs. search needs) (λ c. search needs) (λ c κs. search needs) (λ c. search needs)
     (λ c. search needs)
     (λ c. simp (sym (c .before .before .before .before .before .before .before .code-read .ensures), c .before .before .before .before .before .read .given .1) (c .before .before .put-bytes .ensures))
     (λ c. simp (sym (c .before .before .code-read .ensures), c .enum-told .given .1)))

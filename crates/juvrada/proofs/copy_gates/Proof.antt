@@ -8,11 +8,5 @@ returns c = record { result = simp (c .gates-used .ensures .0, c .before .answer
 
 pub copy-gates-spec : {M : Type 1} → statement M
 copy-gates-spec =
-    tie.close
-    (tie.spec
-    (λ c κs. search needs)
-    (λ c κs. search needs)
-    (λ c κs. search needs)
-    (λ c κs. search needs)
-    (λ c. search needs)
-    returns)
+    tie.close (tie.spec (λ c κs. search needs) (λ c κs. search needs) (λ c κs. search needs) (λ c κs. search needs)
+    (λ c. search needs) returns)

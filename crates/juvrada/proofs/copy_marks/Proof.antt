@@ -8,11 +8,5 @@ returns c = record { result = simp (c .marks-used .ensures .0, c .before .answer
 
 pub copy-marks-spec : {M : Type 1} → statement M
 copy-marks-spec =
-    tie.close
-    (tie.spec
-    (λ c κs. search needs)
-    (λ c κs. search needs)
-    (λ c κs. search needs)
-    (λ c κs. search needs)
-    (λ c. search needs)
-    returns)
+    tie.close (tie.spec (λ c κs. search needs) (λ c κs. search needs) (λ c κs. search needs) (λ c κs. search needs)
+    (λ c. search needs) returns)

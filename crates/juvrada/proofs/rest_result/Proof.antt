@@ -6,6 +6,5 @@ use Rattle.juvrada.proofs.rest_result.Tie as tie
 
 pub rest-result-spec : {M : Type 1} → statement M
 unfolding restResult
-rest-result-spec =
-    tie.close
+rest-result-spec = tie.close
     (tie.spec (λ c. search needs) (λ c. search needs) (λ c κs. search needs) (λ c. simp (c .before .answer .given .1)) (λ c. simp (c .refusal-number .ensures, c .before .before .answer2 .given .1)))

@@ -22,18 +22,6 @@ unfolding byteName
 returns-4 c = simp (le-ltb _ _ (c .before .before .before .before .before .before .if1 .left), le-ltb _ _ (c .before .before .before .before .before .if2 .left), le-ltb _ _ (c .before .before .before .before .if3 .left)) (c .before .before .put-other-name2 .ensures)
 
 pub put-byte-name-spec : {M : Type 1} → statement M
-put-byte-name-spec =
-    tie.close
-    (tie.spec
-    (λ c κs. tt)
-    (λ c. search needs)
-    returns
-    (λ c κs. tt)
-    (λ c. search needs)
-    returns-2
-    (λ c κs. tt)
-    (λ c. search needs)
-    returns-3
-    (λ c κs. tt)
-    (λ c. search needs)
-    returns-4)
+put-byte-name-spec = tie.close
+    (tie.spec (λ c κs. tt) (λ c. search needs) returns (λ c κs. tt) (λ c. search needs) returns-2 (λ c κs. tt)
+    (λ c. search needs) returns-3 (λ c κs. tt) (λ c. search needs) returns-4)

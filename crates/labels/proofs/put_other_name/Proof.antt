@@ -5,11 +5,6 @@ use Rattle.labels.proofs.put_other_name.Tie as tie
 
 pub put-other-name-spec : {M : Type 1} → statement M
 put-other-name-spec =
-    tie.close
-    (tie.spec
-    (λ c. search needs)
-    (λ c κs. search needs)
-    (λ c. search needs)
-    (λ c κs. search needs)
+    tie.close (tie.spec (λ c. search needs) (λ c κs. search needs) (λ c. search needs) (λ c κs. search needs)
     (λ c. search needs)
     (λ c. rw (← c .before .before .before .before .before .index-of .ensures) (c .before .before .put-word .ensures)))

@@ -7,9 +7,5 @@ use Rattle.lfo.proofs.lfo_height.Tie as tie
 pub lfo-height-spec : {M : Type 1} → statement M
 unfolding lfoHeightOf
 lfo-height-spec =
-    tie.close
-    (tie.spec
-    (λ c κs. search needs)
-    (λ c. simp (c .before .if1 .taken, c .unslewed-height .ensures))
-    (λ c κs. search needs)
-    (λ c. simp (c .before .if1 .left, c .slewed-height .ensures)))
+    tie.close (tie.spec (λ c κs. search needs) (λ c. simp (c .before .if1 .taken, c .unslewed-height .ensures))
+    (λ c κs. search needs) (λ c. simp (c .before .if1 .left, c .slewed-height .ensures)))

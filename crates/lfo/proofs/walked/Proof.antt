@@ -46,21 +46,7 @@ returns c =
     finished _ _ _ _ _ _ _ _ _ (i .0) (i .2) (i .3) (sym (i .4) ∙ full) (c .before .before .before .place2 .ensures) (c .before .before .min .ensures) (c .before .moved2 .ensures) (c .clamp-unit .ensures)
 
 pub walked-spec : {M : Type 1} → statement M
-walked-spec =
-    tie.close
-    (tie.spec
-    Inv-loop
-    μ-loop
-    (λ c κs. search needs)
-    loop-holds
-    (λ c κs. search needs)
-    (λ c κs. search needs)
-    (λ c. search needs)
-    (λ c. search needs)
-    loop-again
-    (λ c κs. search needs)
-    (λ c κs. search needs)
-    (λ c κs. search needs)
-    (λ c. search needs)
-    (λ c κs. search needs)
-    returns)
+walked-spec = tie.close
+    (tie.spec Inv-loop μ-loop (λ c κs. search needs) loop-holds (λ c κs. search needs) (λ c κs. search needs)
+    (λ c. search needs) (λ c. search needs) loop-again (λ c κs. search needs) (λ c κs. search needs)
+    (λ c κs. search needs) (λ c. search needs) (λ c κs. search needs) returns)

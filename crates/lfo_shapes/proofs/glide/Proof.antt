@@ -6,10 +6,5 @@ use Rattle.lfo_shapes.proofs.glide.Tie as tie
 
 pub glide-spec : {M : Type 1} → statement M
 unfolding glideOf
-glide-spec =
-    tie.close
-    (tie.spec
-    (λ c κs. search needs)
-    (λ c κs. search needs)
-    (λ c κs. search needs)
+glide-spec = tie.close (tie.spec (λ c κs. search needs) (λ c κs. search needs) (λ c κs. search needs)
     (λ c. simp (c .fract .ensures, c .before .sampled2 .ensures, c .before .before .sampled .ensures)))

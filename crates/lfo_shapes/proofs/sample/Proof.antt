@@ -46,6 +46,4 @@ unfolding samples ofBits
 returns-8 c = named _ 0 (between (number _) 0 zero-le (reaches 1 0 _ (lit< tt) (lit≤ tt) .failed (c .if7 .left)))
 
 pub sample-spec : {M : Type 1} → statement M
-sample-spec =
-    tie.close
-    (tie.spec returns returns-2 returns-3 returns-4 returns-5 returns-6 returns-7 returns-8)
+sample-spec = tie.close (tie.spec returns returns-2 returns-3 returns-4 returns-5 returns-6 returns-7 returns-8)

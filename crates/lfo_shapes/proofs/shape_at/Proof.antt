@@ -7,22 +7,9 @@ use Rattle.lfo_shapes.proofs.shape_at.Tie as tie
 pub shape-at-spec : {M : Type 1} → statement M
 unfolding shapeAtOf rampUpOf
 shape-at-spec =
-    tie.close
-    (tie.spec
-    (λ c. search needs)
-    (λ c κs. search needs)
-    (λ c. search needs)
-    (λ c κs. search needs)
-    (λ c. search needs)
-    (λ c κs. search needs)
-    (λ c. search needs)
-    (λ c κs. search needs)
-    (λ c. search needs)
-    (λ c κs. search needs)
-    (λ c. search needs)
-    (λ c κs. search needs)
-    (λ c. search needs)
-    (λ c κs. search needs)
+    tie.close (tie.spec (λ c. search needs) (λ c κs. search needs) (λ c. search needs) (λ c κs. search needs)
+    (λ c. search needs) (λ c κs. search needs) (λ c. search needs) (λ c κs. search needs) (λ c. search needs)
+    (λ c κs. search needs) (λ c. search needs) (λ c κs. search needs) (λ c. search needs) (λ c κs. search needs)
     (λ c. simp (c .before .enum-told .given .1, c .lfo-sine .ensures))
     (λ c. simp (c .before .enum-told2 .given .1, c .triangle .ensures))
     (λ c. simp (c .before .enum-told3 .given .1, c .square .ensures))

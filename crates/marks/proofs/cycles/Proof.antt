@@ -32,16 +32,6 @@ returns-2 : tie.Need-returns-2 Inv-loop μ-loop
 returns-2 c = cycles-done _ _ _ (c .loop-test .left) ∙ c .before .loop .inv .1
 
 pub cycles-spec : {M : Type 1} → statement M
-cycles-spec =
-    tie.close
-    (tie.spec
-    Inv-loop
-    μ-loop
-    loop-holds
-    (λ c. search needs)
-    (λ c. search needs)
-    returns
-    (λ c κs. search needs)
-    (λ c. search needs)
-    loop-again
-    returns-2)
+cycles-spec = tie.close
+    (tie.spec Inv-loop μ-loop loop-holds (λ c. search needs) (λ c. search needs) returns (λ c κs. search needs)
+    (λ c. search needs) loop-again returns-2)

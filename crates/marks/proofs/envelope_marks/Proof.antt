@@ -11,11 +11,5 @@ returns c = simp (c .push4 .ensures, c .before .push3 .ensures, c .before .befor
 
 pub envelope-marks-spec : {M : Type 1} → statement M
 envelope-marks-spec =
-    tie.close
-    (tie.spec
-    (λ c κs. search needs)
-    (λ c κs. search needs)
-    (λ c κs. search needs)
-    (λ c κs. search needs)
-    (λ c κs. search needs)
-    returns)
+    tie.close (tie.spec (λ c κs. search needs) (λ c κs. search needs) (λ c κs. search needs) (λ c κs. search needs)
+    (λ c κs. search needs) returns)

@@ -7,10 +7,5 @@ use Rattle.marks.proofs.fade_marks.Tie as tie
 
 pub fade-marks-spec : {M : Type 1} → statement M
 unfolding fadeMarks pushed noMarks stored padded countOf
-fade-marks-spec =
-    tie.close
-    (tie.spec
-    (λ c κs. search needs)
-    (λ c κs. search needs)
-    (λ c κs. search needs)
+fade-marks-spec = tie.close (tie.spec (λ c κs. search needs) (λ c κs. search needs) (λ c κs. search needs)
     (λ c. simp (c .push2 .ensures, c .before .push .ensures, c .before .before .no-marks .ensures)))

@@ -23,14 +23,6 @@ unfolding pulseMarks noMarks
 returns-3 c = simp (c .before .if1 .left) (c .no-marks2 .ensures)
 
 pub pulse-marks-spec : {M : Type 1} → statement M
-pulse-marks-spec =
-    tie.close
-    (tie.spec
-    (λ c κs. search needs)
-    (λ c κs. search needs)
-    (λ c κs. search needs)
-    (λ c κs. search needs)
-    returns
-    returns-2
-    (λ c κs. search needs)
-    returns-3)
+pulse-marks-spec = tie.close
+    (tie.spec (λ c κs. search needs) (λ c κs. search needs) (λ c κs. search needs) (λ c κs. search needs) returns
+    returns-2 (λ c κs. search needs) returns-3)

@@ -12,10 +12,6 @@ held : (c : tie.Start) → T (fits binary32 (c .args .x))
 held c = subst T (sym (c .good .0 .1)) tt
 
 pub abs-spec : {M : Type 1} → statement M
-abs-spec =
-    tie.close
-    (tie.spec
-    (λ c. nan-size _ (is-nan true _ (c .if1 .taken)))
-    (λ c. not-nan _ (is-nan false _ (c .if1 .left)))
-    (λ c. size-no-nan _ (held (c .before)) (is-nan false _ (c .if1 .left)))
-    (λ c. size-by-bits _ (held (c .before))))
+abs-spec = tie.close
+    (tie.spec (λ c. nan-size _ (is-nan true _ (c .if1 .taken))) (λ c. not-nan _ (is-nan false _ (c .if1 .left)))
+    (λ c. size-no-nan _ (held (c .before)) (is-nan false _ (c .if1 .left))) (λ c. size-by-bits _ (held (c .before))))

@@ -61,15 +61,5 @@ returns-2 c =
 
 pub exp2-spec : {M : Type 1} → statement M
 exp2-spec =
-    tie.close
-    (tie.spec
-    (λ c κs. search needs)
-    returns
-    (λ c κs. search needs)
-    float-to-int-field
-    add-field
-    cast-field
-    (λ c κs. search needs)
-    mul-result
-    float-from-bits-result
-    returns-2)
+    tie.close (tie.spec (λ c κs. search needs) returns (λ c κs. search needs) float-to-int-field add-field cast-field
+    (λ c κs. search needs) mul-result float-from-bits-result returns-2)

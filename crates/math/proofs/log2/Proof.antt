@@ -40,15 +40,6 @@ unfolding log2Of log2Bits
 returns-2 c = simp (not-false (lt zero₃₂ (c .before .before .before .args .x)) (c .before .before .if1 .left), field (c .before .before .before) .is, c .log2-mantissa .ensures)
 
 pub log2-spec : {M : Type 1} → statement M
-log2-spec =
-    tie.close
-    (tie.spec
-    returns
-    float-to-bits-bits
-    cast-exponent
-    sub-exponent
-    (λ c. search needs)
-    float-from-bits-mantissa
-    int-to-float-result
-    (λ c κs. search needs)
-    returns-2)
+log2-spec = tie.close
+    (tie.spec returns float-to-bits-bits cast-exponent sub-exponent (λ c. search needs) float-from-bits-mantissa
+    int-to-float-result (λ c κs. search needs) returns-2)

@@ -9,6 +9,5 @@ unfolding sineOfCycle sinTurnsOf
 returns c = simp (c .sine .ensures, c .before .quarter .ensures, c .before .before .half .ensures, c .before .before .before .sign .ensures, c .before .before .before .before .fract .ensures)
 
 pub sin-turns-spec : {M : Type 1} → statement M
-sin-turns-spec =
-    tie.close
+sin-turns-spec = tie.close
     (tie.spec (λ c κs. search needs) (λ c κs. search needs) (λ c κs. search needs) (λ c κs. search needs) (λ c κs. search needs) returns)

@@ -7,14 +7,9 @@ use Rattle.number_lines.proofs.digit.Tie as tie
 
 pub digit-spec : {M : Type 1} → statement M
 unfolding digitOf
-digit-spec =
-    tie.close
-    (tie.spec
-    (λ c. (simp (lt-ltb _ _ (c .if1 .taken)), search needs))
-    (λ c. search needs)
+digit-spec = tie.close (tie.spec (λ c. (simp (lt-ltb _ _ (c .if1 .taken)), search needs)) (λ c. search needs)
     (λ c. (simp (le-ltb _ _ (c .before .if1 .left), lt-ltb _ _ (c .if2 .taken)), search needs))
     (λ c. (simp (le-ltb _ _ (c .before .before .if1 .left), le-ltb _ _ (c .before .if2 .left), lt-ltb _ _ (c .if3 .taken)), search needs))
-    (λ c. search needs)
-    (λ c. search needs)
+    (λ c. search needs) (λ c. search needs)
     (λ c. (simp (le-ltb _ _ (c .before .before .before .if1 .left), le-ltb _ _ (c .before .before .if2 .left), le-ltb _ _ (c .before .if3 .left), lt-ltb _ _ (c .if4 .taken)), search needs))
     (λ c. (simp (le-ltb _ _ (c .before .before .before .if1 .left), le-ltb _ _ (c .before .before .if2 .left), le-ltb _ _ (c .before .if3 .left), le-ltb _ _ (c .if4 .left)), search needs)))

@@ -16,15 +16,6 @@ unfolding fileText
 returns-2 c = simp (ne-eqb _ _ (c .before .before .before .before .before .before .before .before .before .if1 .left)) (c .before .before .before .before .before .before .put2 .ensures ⨾ c .before .before .put-escaped-all .ensures)
 
 pub put-file-spec : {M : Type 1} → statement M
-put-file-spec =
-    tie.close
-    (tie.spec
-    (λ c. refl)
-    (λ c κs. search needs)
-    (λ c. search needs)
-    returns
-    (λ c. refl)
-    (λ c κs. search needs)
-    (λ c κs. search needs)
-    (λ c. search needs)
-    returns-2)
+put-file-spec = tie.close
+    (tie.spec (λ c. refl) (λ c κs. search needs) (λ c. search needs) returns (λ c. refl) (λ c κs. search needs)
+    (λ c κs. search needs) (λ c. search needs) returns-2)

@@ -15,12 +15,5 @@ returns c =
 
 pub put-foot-spec : {M : Type 1} → statement M
 put-foot-spec =
-    tie.close
-    (tie.spec
-    (λ c. refl)
-    (λ c κs. search needs)
-    (λ c κs. search needs)
-    (λ c. refl)
-    (λ c κs. search needs)
-    (λ c. search needs)
-    returns)
+    tie.close (tie.spec (λ c. refl) (λ c κs. search needs) (λ c κs. search needs) (λ c. refl) (λ c κs. search needs)
+    (λ c. search needs) returns)

@@ -15,14 +15,6 @@ unfolding nameText
 returns-2 c = simp (ne-eqb _ _ (c .before .before .before .before .before .if1 .left)) (c .before .before .put-name-in-xml2 .ensures)
 
 pub put-name-spec : {M : Type 1} → statement M
-put-name-spec =
-    tie.close
-    (tie.spec
-    (λ c. refl)
-    (λ c κs. search needs)
-    (λ c. search needs)
-    returns
-    (λ c. refl)
-    (λ c κs. search needs)
-    (λ c. search needs)
-    returns-2)
+put-name-spec = tie.close
+    (tie.spec (λ c. refl) (λ c κs. search needs) (λ c. search needs) returns (λ c. refl) (λ c κs. search needs)
+    (λ c. search needs) returns-2)

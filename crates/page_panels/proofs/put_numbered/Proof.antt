@@ -16,12 +16,5 @@ returns-2 c = simp (sym (c .before .before .code-from .ensures), c .enum-told .g
 
 pub put-numbered-spec : {M : Type 1} → statement M
 put-numbered-spec =
-    tie.close
-    (tie.spec
-    (λ c κs. search needs)
-    (λ c. search needs)
-    (λ c κs. search needs)
-    (λ c. search needs)
-    (λ c. search needs)
-    returns
-    returns-2)
+    tie.close (tie.spec (λ c κs. search needs) (λ c. search needs) (λ c κs. search needs) (λ c. search needs)
+    (λ c. search needs) returns returns-2)

@@ -24,12 +24,5 @@ returns-2 c =
 
 pub put-older-spec : {M : Type 1} → statement M
 put-older-spec =
-    tie.close
-    (tie.spec
-    returns
-    (λ c. search needs)
-    strip-at-requires
-    (λ c. search needs)
-    (λ c κs. search needs)
-    (λ c. search needs)
-    returns-2)
+    tie.close (tie.spec returns (λ c. search needs) strip-at-requires (λ c. search needs) (λ c κs. search needs)
+    (λ c. search needs) returns-2)

@@ -7,14 +7,7 @@ use Rattle.panel.proofs.put_edge.Tie as tie
 
 pub put-edge-spec : {M : Type 1} → statement M
 unfolding edgeText
-put-edge-spec =
-    tie.close
-    (tie.spec
-    (λ c. refl)
-    (λ c κs. search needs)
-    (λ c. search needs)
+put-edge-spec = tie.close (tie.spec (λ c. refl) (λ c κs. search needs) (λ c. search needs)
     (λ c. simp (c .before .before .before .before .before .if1 .taken) (c .before .before .put .ensures))
-    (λ c. refl)
-    (λ c κs. search needs)
-    (λ c. search needs)
+    (λ c. refl) (λ c κs. search needs) (λ c. search needs)
     (λ c. simp (c .before .before .before .before .before .if1 .left) (c .before .before .put2 .ensures)))

@@ -16,16 +16,6 @@ returns c =
     c .before .before .put2 .ensures)
 
 pub put-point-spec : {M : Type 1} → statement M
-put-point-spec =
-    tie.close
-    (tie.spec
-    (λ c. search needs)
-    (λ c κs. search needs)
-    (λ c. refl)
-    (λ c κs. search needs)
-    (λ c κs. search needs)
-    (λ c κs. search needs)
-    (λ c. refl)
-    (λ c κs. search needs)
-    (λ c. search needs)
-    returns)
+put-point-spec = tie.close
+    (tie.spec (λ c. search needs) (λ c κs. search needs) (λ c. refl) (λ c κs. search needs) (λ c κs. search needs)
+    (λ c κs. search needs) (λ c. refl) (λ c κs. search needs) (λ c. search needs) returns)

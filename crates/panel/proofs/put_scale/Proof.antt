@@ -21,19 +21,6 @@ returns-3 c = simp (c .before .before .before .before .before .before .before .b
 
 pub put-scale-spec : {M : Type 1} → statement M
 put-scale-spec =
-    tie.close
-    (tie.spec
-    (λ c. search needs)
-    (λ c. search needs)
-    (λ c κs. search needs)
-    (λ c κs. search needs)
-    (λ c. search needs)
-    (λ c κs. search needs)
-    (λ c κs. search needs)
-    (λ c. refl)
-    (λ c κs. search needs)
-    returns
-    (λ c. search needs)
-    returns-2
-    (λ c. search needs)
-    returns-3)
+    tie.close (tie.spec (λ c. search needs) (λ c. search needs) (λ c κs. search needs) (λ c κs. search needs)
+    (λ c. search needs) (λ c κs. search needs) (λ c κs. search needs) (λ c. refl) (λ c κs. search needs) returns
+    (λ c. search needs) returns-2 (λ c. search needs) returns-3)

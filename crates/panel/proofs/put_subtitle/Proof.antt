@@ -14,12 +14,6 @@ returns c =
     c .before .before .put-edge .ensures
 
 pub put-subtitle-spec : {M : Type 1} → statement M
-put-subtitle-spec =
-    tie.close
-    (tie.spec
-    (λ c. refl)
-    (λ c κs. search needs)
-    (λ c κs. search needs)
-    (λ c κs. search needs)
-    (λ c. search needs)
+put-subtitle-spec = tie.close
+    (tie.spec (λ c. refl) (λ c κs. search needs) (λ c κs. search needs) (λ c κs. search needs) (λ c. search needs)
     returns)

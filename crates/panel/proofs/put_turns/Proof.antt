@@ -17,15 +17,6 @@ returns-2 c = simp (ne-eqb _ _ (c .before .before .before .before .before .befor
     c .before .before .put2 .ensures)
 
 pub put-turns-spec : {M : Type 1} → statement M
-put-turns-spec =
-    tie.close
-    (tie.spec
-    (λ c. refl)
-    (λ c κs. search needs)
-    (λ c. search needs)
-    returns
-    (λ c κs. search needs)
-    (λ c. refl)
-    (λ c κs. search needs)
-    (λ c. search needs)
-    returns-2)
+put-turns-spec = tie.close
+    (tie.spec (λ c. refl) (λ c κs. search needs) (λ c. search needs) returns (λ c κs. search needs) (λ c. refl)
+    (λ c κs. search needs) (λ c. search needs) returns-2)

@@ -5,11 +5,6 @@ use Rattle.panel_marks.proofs.put_kind.Tie as tie
 
 pub put-kind-spec : {M : Type 1} → statement M
 put-kind-spec =
-    tie.close
-    (tie.spec
-    (λ c κs. search needs)
-    (λ c. search needs)
-    (λ c. search needs)
-    (λ c κs. search needs)
+    tie.close (tie.spec (λ c κs. search needs) (λ c. search needs) (λ c. search needs) (λ c κs. search needs)
     (λ c. search needs)
     (λ c. rw (c .before .before .before .before .before .kind-number .ensures) at (c .before .before .put-word .ensures)))

@@ -6,10 +6,5 @@ use Rattle.rows.proofs.put_nine_places.Tie as tie
 
 pub put-nine-places-spec : {M : Type 1} → statement M
 unfolding ninePlaces
-put-nine-places-spec =
-    tie.close
-    (tie.spec
-    (λ c κs. search needs)
-    (λ c κs. search needs)
-    (λ c. search needs)
+put-nine-places-spec = tie.close (tie.spec (λ c κs. search needs) (λ c κs. search needs) (λ c. search needs)
     (λ c. simp (← c .before .before .before .nearest .ensures .0) (c .before .before .put-fixed .ensures)))

@@ -7,15 +7,7 @@ use Rattle.rows.proofs.put_sample.Tie as tie
 
 pub put-sample-spec : {M : Type 1} → statement M
 unfolding sampleText samplePosition
-put-sample-spec =
-    tie.close
-    (tie.spec
-    (λ c. search needs)
-    (λ c. search needs)
-    (λ c. search needs)
-    (λ c κs. search needs)
-    (λ c. search needs)
-    (λ c. search needs)
-    (λ c κs. search needs)
-    (λ c. search needs)
+put-sample-spec = tie.close
+    (tie.spec (λ c. search needs) (λ c. search needs) (λ c. search needs) (λ c κs. search needs) (λ c. search needs)
+    (λ c. search needs) (λ c κs. search needs) (λ c. search needs)
     (λ c. simp (← c .before .before .before .before .sample-position .ensures) (c .before .before .put-row .ensures)))

@@ -48,20 +48,5 @@ returns-5 c = read-whole _ _ _ _ (c .loop-test .left) (c .before .loop .inv .3)
 
 pub read-number-spec : {M : Type 1} → statement M
 read-number-spec =
-    tie.close
-    (tie.spec
-    Inv-loop
-    μ-loop
-    returns
-    returns-2
-    loop-holds
-    (λ c. search needs)
-    returns-3
-    returns-4
-    mul-value
-    (λ c. omega arith)
-    add-value
-    (λ c. search needs)
-    (λ c. search needs)
-    loop-again
-    returns-5)
+    tie.close (tie.spec Inv-loop μ-loop returns returns-2 loop-holds (λ c. search needs) returns-3 returns-4 mul-value
+    (λ c. omega arith) add-value (λ c. search needs) (λ c. search needs) loop-again returns-5)

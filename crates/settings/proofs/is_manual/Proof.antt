@@ -5,9 +5,6 @@ use Rattle.settings.proofs.is_manual.Statement.{statement}
 use Rattle.settings.proofs.is_manual.Tie as tie
 
 pub is-manual-spec : {M : Type 1} → statement M
-is-manual-spec =
-    tie.close
-    (tie.spec
-    (λ c. simp (c .match .keys1))
+is-manual-spec = tie.close (tie.spec (λ c. simp (c .match .keys1))
     (λ c. simp (ne-eqb _ _ (c .before .match .rest .1), le-ltb 5 _ (le-of-suc-le-suc (c .if1 .taken))))
     (λ c. simp (ne-eqb _ _ (c .before .match .rest .1), lt-ltb 5 _ (c .if1 .left))))

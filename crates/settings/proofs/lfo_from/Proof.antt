@@ -10,6 +10,5 @@ returns c =
     simp (c .byte .ensures, c .before .turns .ensures, c .before .before .shape-from2 .ensures, c .before .before .before .shape-from .ensures)
 
 pub lfo-from-spec : {M : Type 1} → statement M
-lfo-from-spec =
-    tie.close
+lfo-from-spec = tie.close
     (tie.spec (λ c κs. search needs) (λ c κs. search needs) (λ c κs. search needs) (λ c κs. search needs) returns)

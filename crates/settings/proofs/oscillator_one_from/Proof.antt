@@ -6,10 +6,6 @@ use Rattle.settings.proofs.oscillator_one_from.Tie as tie
 
 pub oscillator-one-from-spec : {M : Type 1} → statement M
 unfolding oscillatorOneOf widthOf sweepOf depthOf
-oscillator-one-from-spec =
-    tie.close
-    (tie.spec
-    (λ c κs. search needs)
-    (λ c κs. search needs)
+oscillator-one-from-spec = tie.close (tie.spec (λ c κs. search needs) (λ c κs. search needs)
     (λ c. simp (c .before .before .byte .ensures, simp (c .before .is-manual .ensures) at (c .if1 .taken)))
     (λ c. simp (c .before .before .byte .ensures, simp (c .before .is-manual .ensures) at (c .if1 .left))))

@@ -45,6 +45,4 @@ returns-8 c =
     )
 
 pub shape-from-spec : {M : Type 1} → statement M
-shape-from-spec =
-    tie.close
-    (tie.spec returns returns-2 returns-3 returns-4 returns-5 returns-6 returns-7 returns-8)
+shape-from-spec = tie.close (tie.spec returns returns-2 returns-3 returns-4 returns-5 returns-6 returns-7 returns-8)

@@ -19,18 +19,7 @@ returns-2 : tie.Need-returns-2
 returns-2 c = same-length (c .before .before .page2 .ensures)
 
 pub write-page-spec : {M : Type 1} → statement M
-write-page-spec =
-    tie.close
-    (tie.spec
-    (λ c. search needs)
-    slice-aggregate-page
-    (λ c. search needs)
-    (λ c. search needs)
-    (λ c. search needs)
-    (λ c κs. search needs)
-    (λ c. search needs)
-    returns
-    (λ c. search needs)
-    (λ c κs. search needs)
-    (λ c. search needs)
+write-page-spec = tie.close
+    (tie.spec (λ c. search needs) slice-aggregate-page (λ c. search needs) (λ c. search needs) (λ c. search needs)
+    (λ c κs. search needs) (λ c. search needs) returns (λ c. search needs) (λ c κs. search needs) (λ c. search needs)
     returns-2)

@@ -6,5 +6,4 @@ use Rattle.taps.proofs.taps_height.Tie as tie
 
 pub taps-height-spec : {M : Type 1} → statement M
 unfolding tapsHeightOf
-taps-height-spec =
-    tie.close (tie.spec (λ c κs. search needs) (λ c κs. search needs) (λ c κs. search needs) (λ c. cc))
+taps-height-spec = tie.close (tie.spec (λ c κs. search needs) (λ c κs. search needs) (λ c κs. search needs) (λ c. cc))

@@ -28,15 +28,7 @@ returns-5 c =
     simp (all-four (c .before .before .before .if4 .left), c .tap-height4 .ensures, c .before .before .before .before .tap-height3 .ensures, c .before .before .before .before .before .before .before .before .tap-height2 .ensures, c .before .before .before .before .before .before .before .before .before .before .before .before .tap-height .ensures)
 
 pub taps-level-spec : {M : Type 1} → statement M
-taps-level-spec =
-    tie.close
-    (tie.spec
-    returns
-    (λ c. search needs) (λ c. search needs) (λ c κs. search needs)
-    returns-2
-    (λ c. search needs) (λ c. search needs) (λ c κs. search needs)
-    returns-3
-    (λ c. search needs) (λ c. search needs) (λ c κs. search needs)
-    returns-4
-    (λ c. search needs) (λ c. search needs) (λ c κs. search needs)
-    returns-5)
+taps-level-spec = tie.close (tie.spec returns (λ c. search needs) (λ c. search needs) (λ c κs. search needs) returns-2
+    (λ c. search needs) (λ c. search needs) (λ c κs. search needs) returns-3
+    (λ c. search needs) (λ c. search needs) (λ c κs. search needs) returns-4
+    (λ c. search needs) (λ c. search needs) (λ c κs. search needs) returns-5)

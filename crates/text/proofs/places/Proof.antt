@@ -30,15 +30,6 @@ returns-2 : tie.Need-returns-2 Inv-loop μ-loop
 returns-2 c = (places-last _ _ (c .before .loop .inv .1) (c .loop-test .left) ∙ c .before .loop .inv .2, search needs, search needs)
 
 pub places-spec : {M : Type 1} → statement M
-places-spec =
-    tie.close
-    (tie.spec
-    Inv-loop
-    μ-loop
-    loop-holds
-    power-requires
-    returns
-    (λ c. search needs)
-    (λ c. search needs)
-    loop-again
+places-spec = tie.close
+    (tie.spec Inv-loop μ-loop loop-holds power-requires returns (λ c. search needs) (λ c. search needs) loop-again
     returns-2)

@@ -7,11 +7,6 @@ use Rattle.text.proofs.put_byte.Tie as tie
 
 pub put-byte-spec : {M : Type 1} → statement M
 unfolding putByte putAll
-put-byte-spec =
-    tie.close
-    (tie.spec
-    (λ c. search needs)
-    (λ c. search needs)
-    (λ c. search needs)
+put-byte-spec = tie.close (tie.spec (λ c. search needs) (λ c. search needs) (λ c. search needs)
     (λ c. record { page = simp (lt-ltb _ _ (c .if1 .taken)) })
     (λ c. record { page = simp (le-ltb _ _ (c .if1 .left)) }))

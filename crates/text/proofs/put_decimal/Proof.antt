@@ -9,9 +9,6 @@ use Rattle.text.proofs.put_decimal.Tie as tie
 pub put-decimal-spec : {M : Type 1} → statement M
 unfolding decimalOf
 put-decimal-spec =
-    tie.close
-    (tie.spec
-    (λ c κs. search needs)
-    (λ c κs. (search needs, search needs, ten-fits _ (omega arith)))
+    tie.close (tie.spec (λ c κs. search needs) (λ c κs. (search needs, search needs, ten-fits _ (omega arith)))
     (λ c. search needs)
     (λ c. rw (c .before .before .before .places .ensures .0) at (c .before .before .put-digits .ensures)))

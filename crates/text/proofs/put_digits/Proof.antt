@@ -49,18 +49,5 @@ returns c = left-none (rw (no-digits _ _ _ (c .loop-test .left)) at (c .before .
 
 pub put-digits-spec : {M : Type 1} → statement M
 put-digits-spec =
-    tie.close
-    (tie.spec
-    Inv-loop
-    μ-loop
-    loop-holds
-    (λ c. search needs)
-    power-requires
-    div-digit
-    (λ c. search needs)
-    glyph-requires
-    (λ c κs. search needs)
-    (λ c. search needs)
-    loop-again
-    (λ c. search needs)
-    returns)
+    tie.close (tie.spec Inv-loop μ-loop loop-holds (λ c. search needs) power-requires div-digit (λ c. search needs)
+    glyph-requires (λ c κs. search needs) (λ c. search needs) loop-again (λ c. search needs) returns)

@@ -31,29 +31,8 @@ unfolding escapedOf
 returns-6 c = simp (ne-eqb _ _ (c .before .before .before .before .before .before .before .before .if1 .left), ne-eqb _ _ (c .before .before .before .before .before .before .before .if2 .left), ne-eqb _ _ (c .before .before .before .before .before .before .if3 .left), ne-eqb _ _ (c .before .before .before .before .before .if4 .left), ne-eqb _ _ (c .before .before .before .before .if5 .left)) (c .before .before .put-shown .ensures)
 
 pub put-escaped-spec : {M : Type 1} → statement M
-put-escaped-spec =
-    tie.close
-    (tie.spec
-    (λ c. refl)
-    (λ c κs. search needs)
-    (λ c. search needs)
-    returns
-    (λ c. refl)
-    (λ c κs. search needs)
-    (λ c. search needs)
-    returns-2
-    (λ c. refl)
-    (λ c κs. search needs)
-    (λ c. search needs)
-    returns-3
-    (λ c. refl)
-    (λ c κs. search needs)
-    (λ c. search needs)
-    returns-4
-    (λ c. refl)
-    (λ c κs. search needs)
-    (λ c. search needs)
-    returns-5
-    (λ c κs. search needs)
-    (λ c. search needs)
-    returns-6)
+put-escaped-spec = tie.close
+    (tie.spec (λ c. refl) (λ c κs. search needs) (λ c. search needs) returns (λ c. refl) (λ c κs. search needs)
+    (λ c. search needs) returns-2 (λ c. refl) (λ c κs. search needs) (λ c. search needs) returns-3 (λ c. refl)
+    (λ c κs. search needs) (λ c. search needs) returns-4 (λ c. refl) (λ c κs. search needs) (λ c. search needs)
+    returns-5 (λ c κs. search needs) (λ c. search needs) returns-6)

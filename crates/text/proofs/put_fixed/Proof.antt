@@ -33,14 +33,5 @@ returns c = puts-as (fixed _ _ _ _ (c .before .before .before .before .before .b
 
 pub put-fixed-spec : {M : Type 1} → statement M
 put-fixed-spec =
-    tie.close
-    (tie.spec
-    (λ c κs. search needs)
-    power-requires
-    div-whole
-    (λ c κs. search needs)
-    (λ c. refl)
-    (λ c κs. search needs)
-    put-digits-requires
-    (λ c. search needs)
-    returns)
+    tie.close (tie.spec (λ c κs. search needs) power-requires div-whole (λ c κs. search needs) (λ c. refl)
+    (λ c κs. search needs) put-digits-requires (λ c. search needs) returns)

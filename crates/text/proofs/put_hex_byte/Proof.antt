@@ -17,14 +17,6 @@ returns : tie.Need-returns
 returns c = puts-as (code _ _ _ (c .before .before .before .before .before .before .before .before .upper .ensures) (c .before .before .before .upper2 .ensures)) (c .before .before .before .before .before .before .before .before .before .before .before .before .put .ensures ⨾ c .before .before .before .before .before .before .before .put-byte .ensures ⨾ c .before .before .put-byte2 .ensures)
 
 pub put-hex-byte-spec : {M : Type 1} → statement M
-put-hex-byte-spec =
-    tie.close
-    (tie.spec
-    (λ c. refl)
-    (λ c κs. search needs)
-    (λ c κs. search needs)
-    (λ c κs. search needs)
-    (λ c κs. search needs)
-    (λ c κs. search needs)
-    (λ c. search needs)
-    returns)
+put-hex-byte-spec = tie.close
+    (tie.spec (λ c. refl) (λ c κs. search needs) (λ c κs. search needs) (λ c κs. search needs) (λ c κs. search needs)
+    (λ c κs. search needs) (λ c. search needs) returns)

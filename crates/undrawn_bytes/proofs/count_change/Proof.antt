@@ -7,9 +7,6 @@ use Rattle.undrawn_bytes.proofs.count_change.Tie as tie
 
 pub count-change-spec : {M : Type 1} → statement M
 unfolding differCount
-count-change-spec =
-    tie.close
-    (tie.spec
-    (λ c κs. search needs)
+count-change-spec = tie.close (tie.spec (λ c κs. search needs)
     (λ c. (simp (sym (c .before .differs-undrawn .ensures) ∙ c .if1 .taken), search needs))
     (λ c. (simp (sym (c .before .differs-undrawn .ensures) ∙ c .if1 .left), search needs)))

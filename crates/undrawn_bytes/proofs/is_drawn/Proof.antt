@@ -32,15 +32,5 @@ returns-3 c = of-codes _ _ (c .before .before .if1 .left) (c .before .loop .inv 
 
 pub is-drawn-spec : {M : Type 1} → statement M
 is-drawn-spec =
-    tie.close
-    (tie.spec
-    Inv-loop
-    μ-loop
-    returns
-    loop-holds
-    (λ c. search needs)
-    (λ c κs. search needs)
-    returns-2
-    (λ c. search needs)
-    loop-again
-    returns-3)
+    tie.close (tie.spec Inv-loop μ-loop returns loop-holds (λ c. search needs) (λ c κs. search needs) returns-2
+    (λ c. search needs) loop-again returns-3)

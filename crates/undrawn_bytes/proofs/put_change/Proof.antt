@@ -16,10 +16,4 @@ returns-2 c = simp (sym (c .before .differs-undrawn .ensures) ∙ c .if1 .left) 
 
 pub put-change-spec : {M : Type 1} → statement M
 put-change-spec =
-    tie.close
-    (tie.spec
-    (λ c κs. search needs)
-    (λ c κs. search needs)
-    (λ c. search needs)
-    returns
-    returns-2)
+    tie.close (tie.spec (λ c κs. search needs) (λ c κs. search needs) (λ c. search needs) returns returns-2)

@@ -16,15 +16,6 @@ returns c =
     c .before .before .put2 .ensures
 
 pub put-line-spec : {M : Type 1} → statement M
-put-line-spec =
-    tie.close
-    (tie.spec
-    (λ c κs. search needs)
-    (λ c κs. search needs)
-    (λ c. refl)
-    (λ c κs. search needs)
-    (λ c κs. search needs)
-    (λ c. refl)
-    (λ c κs. search needs)
-    (λ c. search needs)
-    returns)
+put-line-spec = tie.close
+    (tie.spec (λ c κs. search needs) (λ c κs. search needs) (λ c. refl) (λ c κs. search needs) (λ c κs. search needs)
+    (λ c. refl) (λ c κs. search needs) (λ c. search needs) returns)

@@ -17,15 +17,5 @@ returns c =
 
 pub put-named-spec : {M : Type 1} → statement M
 put-named-spec =
-    tie.close
-    (tie.spec
-    (λ c. refl)
-    (λ c κs. search needs)
-    (λ c κs. search needs)
-    (λ c. refl)
-    (λ c κs. search needs)
-    (λ c κs. search needs)
-    (λ c. refl)
-    (λ c κs. search needs)
-    (λ c. search needs)
-    returns)
+    tie.close (tie.spec (λ c. refl) (λ c κs. search needs) (λ c κs. search needs) (λ c. refl) (λ c κs. search needs)
+    (λ c κs. search needs) (λ c. refl) (λ c κs. search needs) (λ c. search needs) returns)

@@ -17,17 +17,6 @@ returns-2 c = simp (ne-eqb _ _ (λ q. c .before .before .before .before .before 
 
 pub put-undrawn-part-spec : {M : Type 1} → statement M
 put-undrawn-part-spec =
-    tie.close
-    (tie.spec
-    (λ c. refl)
-    (λ c κs. search needs)
-    (λ c κs. search needs)
-    (λ c. refl)
-    (λ c κs. search needs)
-    (λ c. search needs)
-    returns
-    (λ c. refl)
-    (λ c κs. search needs)
-    (λ c κs. search needs)
-    (λ c. search needs)
+    tie.close (tie.spec (λ c. refl) (λ c κs. search needs) (λ c κs. search needs) (λ c. refl) (λ c κs. search needs)
+    (λ c. search needs) returns (λ c. refl) (λ c κs. search needs) (λ c κs. search needs) (λ c. search needs)
     returns-2)

@@ -20,15 +20,5 @@ unfolding readBy
 returns-2 c = simp (sym (c .before .before .code-from .ensures), c .enum-told .given .1)
 
 pub reads-spec : {M : Type 1} → statement M
-reads-spec =
-    tie.close
-    (tie.spec
-    (λ c κs. search needs)
-    (λ c. search needs)
-    (λ c κs. search needs)
-    (λ c. search needs)
-    slice-aggregate-index-of
-    (λ c κs. search needs)
-    (λ c. search needs)
-    returns
-    returns-2)
+reads-spec = tie.close (tie.spec (λ c κs. search needs) (λ c. search needs) (λ c κs. search needs) (λ c. search needs)
+    slice-aggregate-index-of (λ c κs. search needs) (λ c. search needs) returns returns-2)

@@ -6,10 +6,5 @@ use Rattle.checklist_rows.proofs.empty.empty_trial.Tie as tie
 
 pub empty-trial-spec : {M : Type 1} → statement M
 unfolding emptyTrial
-empty-trial-spec =
-    tie.close
-    (tie.spec
-    (λ c κs. search needs)
-    (λ c κs. search needs)
-    (λ c κs. search needs)
+empty-trial-spec = tie.close (tie.spec (λ c κs. search needs) (λ c κs. search needs) (λ c κs. search needs)
     (λ c. simp (c .from-zero-to-one .ensures, c .before .input-height .ensures, c .before .before .empty-input .ensures)))

@@ -18,14 +18,6 @@ loop-again c = (search needs, search needs, one-compared _ _ _ (c .before .befor
 
 pub count-differing-spec : {M : Type 1} → statement M
 count-differing-spec =
-    tie.close
-    (tie.spec
-    Inv-loop
-    μ-loop
-    (λ c. (search needs, search needs, none-compared _ _))
-    (λ c κs. search needs)
-    (λ c. search needs)
-    (λ c. search needs)
-    (λ c. search needs)
-    loop-again
+    tie.close (tie.spec Inv-loop μ-loop (λ c. (search needs, search needs, none-compared _ _)) (λ c κs. search needs)
+    (λ c. search needs) (λ c. search needs) (λ c. search needs) loop-again
     (λ c. all-compared _ _ _ _ (c .before .loop .inv .0) (c .loop-test .left) (c .before .loop .inv .2)))

@@ -7,10 +7,6 @@ use Rattle.checklist_rows.proofs.shapes.differs.Tie as tie
 
 pub differs-spec : {M : Type 1} → statement M
 unfolding differsAt
-differs-spec =
-    tie.close
-    (tie.spec
-    (λ c κs. search needs)
-    (λ c κs. search needs)
+differs-spec = tie.close (tie.spec (λ c κs. search needs) (λ c κs. search needs)
     (λ c. (simp (← c .before .word-at2 .ensures, ← c .before .before .word-at .ensures, eq-eqb _ _ (c .if1 .taken)), search needs))
     (λ c. (simp (← c .before .word-at2 .ensures, ← c .before .before .word-at .ensures, ne-eqb _ _ (c .if1 .left)), search needs)))

@@ -8,12 +8,6 @@ use Rattle.checklist_rows.proofs.shapes.named_trial.Tie as tie
 pub named-trial-spec : {M : Type 1} → statement M
 unfolding namedTrial
 named-trial-spec =
-    tie.close
-    (tie.spec
-    (λ c. search needs)
-    (λ c. search needs)
-    (λ c κs. search needs)
-    (λ c κs. search needs)
+    tie.close (tie.spec (λ c. search needs) (λ c. search needs) (λ c κs. search needs) (λ c κs. search needs)
     (λ c. simp (lt-ltb _ _ (c .before .before .if1 .taken), c .shape-trial .ensures, ← c .before .count-differing .ensures))
-    (λ c κs. search needs)
-    (λ c. simp (le-ltb _ _ (c .before .if1 .left), c .no-trial .ensures)))
+    (λ c κs. search needs) (λ c. simp (le-ltb _ _ (c .before .if1 .left), c .no-trial .ensures)))

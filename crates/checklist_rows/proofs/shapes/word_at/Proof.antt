@@ -7,10 +7,5 @@ use Rattle.checklist_rows.proofs.shapes.word_at.Tie as tie
 pub word-at-spec : {M : Type 1} → statement M
 unfolding wordAt
 word-at-spec =
-    tie.close
-    (tie.spec
-    (λ c κs. search needs)
-    (λ c κs. search needs)
-    (λ c κs. search needs)
-    (λ c κs. search needs)
+    tie.close (tie.spec (λ c κs. search needs) (λ c κs. search needs) (λ c κs. search needs) (λ c κs. search needs)
     (λ c. simp (c .word-of .ensures, c .before .input-height .ensures, c .before .before .lfo-input .ensures, c .before .before .before .part-bits .ensures)))

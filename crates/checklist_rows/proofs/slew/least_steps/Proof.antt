@@ -6,13 +6,6 @@ use Rattle.checklist_rows.proofs.slew.least_steps.Tie as tie
 
 pub least-steps-spec : {M : Type 1} → statement M
 unfolding leastSteps
-least-steps-spec =
-    tie.close
-    (tie.spec
-    (λ c. search needs)
-    (λ c. search needs)
-    (λ c. (simp (c .if1 .taken), search needs))
-    (λ c. search needs)
-    (λ c. search needs)
-    (λ c. search needs)
-    (λ c. (simp (c .if1 .left), search needs)))
+least-steps-spec = tie.close
+    (tie.spec (λ c. search needs) (λ c. search needs) (λ c. (simp (c .if1 .taken), search needs)) (λ c. search needs)
+    (λ c. search needs) (λ c. search needs) (λ c. (simp (c .if1 .left), search needs)))

@@ -8,10 +8,7 @@ use Rattle.checklist_rows.proofs.slew.most_steps.Tie as tie
 
 pub most-steps-spec : {M : Type 1} → statement M
 unfolding mostSteps
-most-steps-spec =
-    tie.close
-    (tie.spec
-    (λ c κs. search needs)
+most-steps-spec = tie.close (tie.spec (λ c κs. search needs)
     (λ c. simp (c .if1 .taken, c .before .least-steps .ensures .0, add-zero))
     (λ c. simp (c .if2 .taken, c .before .before .least-steps .ensures .0, add-zero))
     (λ c. search needs)

@@ -7,10 +7,5 @@ use Rattle.checklist_rows.proofs.slew.slew_trial.Tie as tie
 pub slew-trial-spec : {M : Type 1} → statement M
 unfolding slewTrial
 slew-trial-spec =
-    tie.close
-    (tie.spec
-    (λ c κs. search needs)
-    (λ c κs. search needs)
-    (λ c κs. search needs)
-    (λ c κs. search needs)
+    tie.close (tie.spec (λ c κs. search needs) (λ c κs. search needs) (λ c κs. search needs) (λ c κs. search needs)
     (λ c. simp (c .slew-input .ensures, c .before .is-enough .ensures, c .before .before .steps-before .ensures, c .before .before .before .slew-steps .ensures)))

@@ -6,21 +6,9 @@ use Rattle.generator.proofs.Generator.at.Tie as tie
 
 pub at-spec : {M : Type 1} → statement M
 unfolding heightOf
-at-spec =
-    tie.close
-    (tie.spec
-    (λ c. search needs)
-    (λ c κs. search needs)
-    (λ c. search needs)
-    (λ c κs. search needs)
-    (λ c. search needs)
-    (λ c κs. search needs)
-    (λ c. search needs)
-    (λ c κs. search needs)
-    (λ c. search needs)
-    (λ c κs. search needs)
-    (λ c. search needs)
-    (λ c κs. search needs)
+at-spec = tie.close (tie.spec (λ c. search needs) (λ c κs. search needs) (λ c. search needs) (λ c κs. search needs)
+    (λ c. search needs) (λ c κs. search needs) (λ c. search needs) (λ c κs. search needs) (λ c. search needs)
+    (λ c κs. search needs) (λ c. search needs) (λ c κs. search needs)
     (λ c. simp (c .before .before .shape .given .1, c .envelope-height .ensures))
     (λ c. simp (c .before .before .shape2 .given .1, c .fade-height .ensures))
     (λ c. simp (c .before .before .shape3 .given .1, c .lfo-height .ensures))

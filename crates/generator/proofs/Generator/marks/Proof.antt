@@ -9,23 +9,9 @@ use Rattle.generator.proofs.Generator.marks.Tie as tie
 
 pub marks-spec : {M : Type 1} → statement M
 unfolding marksOf markList noMarks
-marks-spec =
-    tie.close
-    (tie.spec
-    (λ c. search needs)
-    (λ c κs. search needs)
-    (λ c. search needs)
-    (λ c κs. search needs)
-    (λ c. search needs)
-    (λ c κs. search needs)
-    (λ c κs. search needs)
-    (λ c. search needs)
-    (λ c κs. search needs)
-    (λ c κs. search needs)
-    (λ c. search needs)
-    (λ c κs. search needs)
-    (λ c. search needs)
-    (λ c κs. search needs)
+marks-spec = tie.close (tie.spec (λ c. search needs) (λ c κs. search needs) (λ c. search needs) (λ c κs. search needs)
+    (λ c. search needs) (λ c κs. search needs) (λ c κs. search needs) (λ c. search needs) (λ c κs. search needs)
+    (λ c κs. search needs) (λ c. search needs) (λ c κs. search needs) (λ c. search needs) (λ c κs. search needs)
     (λ c. simp (c .before .before .shape .given .1, c .envelope-marks .ensures))
     (λ c. simp (c .before .before .shape2 .given .1, c .fade-marks .ensures))
     (λ c. simp (c .before .before .before .shape3 .given .1) (push-list [] _ (c .before .no-marks .ensures) (c .cycles .ensures)))

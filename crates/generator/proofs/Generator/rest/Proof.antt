@@ -13,19 +13,8 @@ unfolding filterUnity div ofBits
 unity = refl
 
 pub rest-spec : {M : Type 1} → statement M
-rest-spec =
-    tie.close
-    (tie.spec
-    (λ c. search needs)
-    (λ c. search needs)
-    (λ c. search needs)
-    (λ c. simp (c .before .before .shape .given .1, c .if1 .taken))
-    (λ c. search needs)
-    (λ c. search needs)
-    (λ c. search needs)
-    (λ c. simp (c .enum-told .given .1))
-    (λ c. simp (c .enum-told2 .given .1))
-    (λ c. simp (c .before .before .shape .given .1, c .if1 .left))
-    (λ c. simp (c .enum-told3 .given .1) unity)
-    (λ c. simp (c .enum-told4 .given .1))
-    (λ c. simp (c .enum-told5 .given .1)))
+rest-spec = tie.close (tie.spec (λ c. search needs) (λ c. search needs) (λ c. search needs)
+    (λ c. simp (c .before .before .shape .given .1, c .if1 .taken)) (λ c. search needs) (λ c. search needs)
+    (λ c. search needs) (λ c. simp (c .enum-told .given .1)) (λ c. simp (c .enum-told2 .given .1))
+    (λ c. simp (c .before .before .shape .given .1, c .if1 .left)) (λ c. simp (c .enum-told3 .given .1) unity)
+    (λ c. simp (c .enum-told4 .given .1)) (λ c. simp (c .enum-told5 .given .1)))

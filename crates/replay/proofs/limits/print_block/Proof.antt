@@ -7,11 +7,5 @@ use Rattle.replay.proofs.limits.print_block.Tie as tie
 
 pub print-block-spec : {M : Type 1} → statement M
 print-block-spec =
-    tie.close
-    (tie.spec
-    (λ c. simp length-take (omega arith))
-    (λ c κs. search needs)
-    (λ c κs. search needs)
-    (λ c κs. search needs)
-    (λ c. search needs)
-    (λ c. search needs))
+    tie.close (tie.spec (λ c. simp length-take (omega arith)) (λ c κs. search needs) (λ c κs. search needs)
+    (λ c κs. search needs) (λ c. search needs) (λ c. search needs))
