@@ -1,7 +1,8 @@
--- How many taps are used; which positions a tap reaches; the maximum of two floats; where the height of an impulse train lies, and how near it is to its exact height; and trains held against the Rust.
+-- How many taps are used; which positions a tap reaches; the maximum of two floats, and how one comparison finds it; where the height of an impulse train lies, and how near it is to its exact height; and trains held against the Rust.
 pub mod UsedTaps
 pub mod Width
 pub mod Maximum
+pub mod Raised
 pub mod Ranges
 pub mod EveryTaps
 pub mod TapsError

@@ -32,9 +32,17 @@ tallOf taps i = getD (taps .tall) i nan
 abbrev pub spikeOf : Float → Float → Float
 spikeOf tall distance = tall ⊗ (one₃₂ ⊖ distance ⊘ tapWidth)
 
+-- A height, or the spike where that is above it: one comparison. No NaN is above a height.
+abbrev pub raisedTo : Float → Float → Float
+raisedTo height spike = cond (lt height spike) spike height
+
 -- The height so far with one tap more: the larger of it and the spike, where t is nearer to the tap than `tapWidth`.
 unfoldable pub tapHeightOf : Float → Float → Float → Float → Float
 tapHeightOf at tall t height = cond (lt (absOf (t ⊖ at)) tapWidth) (maxOf height (spikeOf tall (absOf (t ⊖ at)))) height
+
+-- What the code computes for a tap: the same as `tapHeightOf` where the height so far is +0 or a number above 0, as it is in every train (`raised-is`, `level-raised` in proofs/Raised).
+unfoldable pub tapRaisedOf : Float → Float → Float → Float → Float
+tapRaisedOf at tall t height = cond (lt (absOf (t ⊖ at)) tapWidth) (raisedTo height (spikeOf tall (absOf (t ⊖ at)))) height
 
 -- The level of the first i taps: the fold of tapHeightOf over them, from +0 on.
 unfoldable pub tapsLevelOf : Taps → Float → ℕ → Float

@@ -3,7 +3,7 @@ ghost use mathlib.Core.Path.{_≡_};
 ghost use mathlib.Core.Bool.{true};
 ghost use Rattle.exact.specs.Binary32.{zero₃₂};
 ghost use Rattle.marks.specs.Marks.{stored};
-ghost use Rattle.taps.specs.Formula.{usedOf, tapHeightOf, tapsLevelOf, tapsHeightOf};
+ghost use Rattle.taps.specs.Formula.{usedOf, tapRaisedOf, tapsLevelOf, tapsHeightOf};
 ghost use Rattle.taps.specs.Marks.{tapMarks};
 use curve::Height;
 use curve::drawn;
@@ -15,7 +15,6 @@ use marks::Marks;
 use marks::no_marks;
 use marks::push;
 use math::abs;
-use math::max;
 
 // The most taps that a delay has.
 pub const MAX_TAPS: usize = 4;
@@ -31,14 +30,18 @@ pub struct Taps {
 }
 
 // The height so far, or the tap's where that is larger. Most positions are beyond the tap to one side: the distance is taken of the others alone.
+// One comparison finds the larger: the height so far is +0 or a number above 0, and a NaN is above neither.
 fn tap_height(at: f32, tall: f32, t: f32, height: f32) -> f32
-    ensures { λ r. ⌜ r ≡ tapHeightOf at tall t height ⌝ }
+    ensures { λ r. ⌜ r ≡ tapRaisedOf at tall t height ⌝ }
 {
     let offset = t - at;
     if offset < WIDTH {
         if -WIDTH < offset {
             let distance = abs(offset);
-            return max(height, tall * (1.0 - distance / WIDTH));
+            let spike = tall * (1.0 - distance / WIDTH);
+            if height < spike {
+                return spike;
+            }
         }
     }
     height
