@@ -3,6 +3,7 @@
 # ---- standard input
 
 same sheet-example 0 "$juvrada" sheet - <example
+shows 'standard input' -
 same sheet-example 0 "$juvrada" sheet - < <(cat example)
 same sheet-example 0 "$juvrada" sheet <(cat example)
 same sheet-example 0 "$juvrada" sheet - < <(head -c 100 example; sleep 0.2; tail -c +101 example)
@@ -68,13 +69,18 @@ for name in "${names[@]}"; do
   cp -- changed "./$name"
   same compare-over 1 "$juvrada" compare --svg -- example "$name"
   run "$juvrada" sheet -o "folder/$name" -- "$name"
-  expect "sheet -o folder/$name" eval '[ "$got" -eq 0 ] && [ ! -s out ] && [ -z "$(said)" ] && cmp -s "folder/$name" changed.svg'
+  expect "sheet -o folder/$name" eval '[ "$got" -eq 0 ] && [ ! -s out ] && [ -z "$(said)" ] && cmp -s <(unnamed "folder/$name") <(unnamed changed.svg)'
   rm -- "./$name" "folder/$name"
 done
 expect "sheet -o left something beside the file" [ -z "$(ls -A folder)" ]
 # a name that begins with a dash, and any name that does not, without --
 cp changed ./-x
 same compare-over 1 "$juvrada" compare --svg example ./-x
+shows -x ./-x
+mkdir deep && cp example 'deep/a&b <c>'
+same sheet-example 0 "$juvrada" sheet 'deep/a&b <c>'
+shows 'a&amp;b &lt;c&gt;' 'deep/a&b <c>'
+rm -r deep
 refused "no option '-x' $hint" "$juvrada" compare --svg example -x
 
 # what cannot be printed is escaped, so that an error is one line

@@ -14,11 +14,7 @@ near x e h l = ap (λ y. lt y tapWidth) e ∙ between x h l
 
 pub tap-height-spec : {M : Type 1} → statement M
 unfolding tapRaisedOf
-tap-height-spec =
-    tie.close
-    (tie.spec
-    (λ c κs. search needs)
+tap-height-spec = tie.close (tie.spec (λ c κs. search needs)
     (λ c. let d = c .before .abs .ensures in simp (sym d, near _ d (c .before .before .before .if1 .taken) (c .before .before .if2 .taken), c .if3 .taken))
     (λ c. let d = c .before .abs .ensures in simp (sym d, near _ d (c .before .before .before .if1 .taken) (c .before .before .if2 .taken), c .if3 .left))
-    (λ c. simp (beyond-left _ (c .if2 .left)))
-    (λ c. simp (beyond-right _ (c .if1 .left))))
+    (λ c. simp (beyond-left _ (c .if2 .left))) (λ c. simp (beyond-right _ (c .if1 .left))))
