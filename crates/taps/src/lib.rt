@@ -3,7 +3,7 @@ ghost use mathlib.Core.Path.{_≡_};
 ghost use mathlib.Core.Bool.{true};
 ghost use Rattle.exact.specs.Binary32.{zero₃₂};
 ghost use Rattle.marks.specs.Marks.{stored};
-ghost use Rattle.taps.specs.Formula.{usedOf, tapRaisedOf, tapsLevelOf, tapsHeightOf};
+ghost use Rattle.taps.specs.Formula.{usedOf, raisedTo, tapRaisedOf, tapsLevelOf, tapsHeightOf};
 ghost use Rattle.taps.specs.Marks.{tapMarks};
 use curve::Height;
 use curve::drawn;
@@ -29,8 +29,17 @@ pub struct Taps {
     pub used: usize,
 }
 
+// The larger of the two, by one comparison: the height so far is +0 or a number above 0, and a NaN is above neither.
+fn raised_to(height: f32, spike: f32) -> f32
+    ensures { λ r. ⌜ r ≡ raisedTo height spike ⌝ }
+{
+    if height < spike {
+        return spike;
+    }
+    height
+}
+
 // The height so far, or the tap's where that is larger. Most positions are beyond the tap to one side: the distance is taken of the others alone.
-// One comparison finds the larger: the height so far is +0 or a number above 0, and a NaN is above neither.
 fn tap_height(at: f32, tall: f32, t: f32, height: f32) -> f32
     ensures { λ r. ⌜ r ≡ tapRaisedOf at tall t height ⌝ }
 {
@@ -38,10 +47,7 @@ fn tap_height(at: f32, tall: f32, t: f32, height: f32) -> f32
     if offset < WIDTH {
         if -WIDTH < offset {
             let distance = abs(offset);
-            let spike = tall * (1.0 - distance / WIDTH);
-            if height < spike {
-                return spike;
-            }
+            return raised_to(height, tall * (1.0 - distance / WIDTH));
         }
     }
     height
