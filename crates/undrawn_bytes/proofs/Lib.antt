@@ -1,3 +1,4 @@
--- What the loops need.
+-- What the loops need; where none is counted none differs.
 pub mod Drawn
 pub mod ByteLines
+pub mod Counted
