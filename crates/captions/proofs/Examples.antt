@@ -1,4 +1,4 @@
--- CAPTIONS HELD AGAINST NUMBERS FROM OUTSIDE: each row was worked from the prose by a program of its own, which rounds to binary32 after each operation. Assumes nothing.
+-- CAPTIONS HELD AGAINST NUMBERS FROM OUTSIDE: each row is worked from docs/SPECIFICATION.md, rounded to binary32 after each operation. Assumes nothing.
 use mathlib.Core.Bool.{Bool, true, false}
 use mathlib.Core.List.{List, [], _∷_, map}
 use Prim.Native.Nat.{ℕ}

@@ -1,5 +1,4 @@
--- GENERATORS HELD AGAINST THE RUST. Every number of a row was printed by the unchanged generator.rs and math.rs (deepmind-midi, commit a25f50498d), built with rustc 1.95.0, over a
--- block with the row's bytes. Assumes nothing.
+-- GENERATORS HELD AGAINST THE RUST. The numbers of a row are those of generator.rs and math.rs (deepmind-midi, commit a25f50498d), over a block with the row's bytes. Assumes nothing.
 use mathlib.Core.Bool.{Bool, true, false, cond, _&&_}
 use mathlib.Core.List.{List, [], _∷_}
 use Prim.Native.Nat.{ℕ}

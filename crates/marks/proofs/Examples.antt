@@ -1,5 +1,4 @@
--- THE CYCLES OF ANY TURNS HELD AGAINST THE RUST. Every number of a row was printed by the unchanged generator.rs and math.rs (deepmind-midi, commit a25f50498d), built with rustc
--- 1.95.0, by a copy of it with a builder of an LFO of any turns added. A NaN is written 0x7fc0_0000 in both. Assumes nothing.
+-- THE CYCLES OF ANY TURNS HELD AGAINST THE RUST. The numbers of a row are those of `cycles` in generator.rs (deepmind-midi, commit a25f50498d), for an LFO of any turns. A NaN is written 0x7fc0_0000 in both. Assumes nothing.
 use mathlib.Core.Bool.{Bool, _&&_}
 use mathlib.Core.List.{List, [], _∷_}
 use Prim.Native.Nat.{ℕ}

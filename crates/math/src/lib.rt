@@ -6,7 +6,7 @@ ghost use lib.IntN.{pos};
 ghost use lib.Ieee.{binary32, ofInt, lt, neg};
 ghost use Rattle.exact.specs.Binary32.{_⊕_, _⊖_, bits, zero₃₂, one₃₂};
 ghost use Rattle.math.specs.Horner.{horner};
-ghost use Rattle.math.specs.Formulas.{unsignedZero, minOf, maxOf, clampOf, absOf, floorOf, fractOf, exp2Coefficients, exp2Of, log2Mantissa, log2Of, halfOf, quarterOf, signOf, sineOfQuarter, sinTurnsOf};
+ghost use Rattle.math.specs.Formulas.{unsignedZero, minOf, clampOf, absOf, floorOf, fractOf, exp2Coefficients, exp2Of, log2Mantissa, log2Of, halfOf, quarterOf, signOf, sineOfQuarter, sinTurnsOf};
 
 // From here on an f32 has no fraction: 2 to the power 23.
 const WHOLE: f32 = 8388608.0;
@@ -71,25 +71,6 @@ pub fn min(x: f32, y: f32) -> f32
         return x;
     }
     if y < x {
-        return y;
-    }
-    unsigned_zero(x)
-}
-
-// The larger of two numbers, and of a number and a NaN the number. Of two zeros it is +0.
-pub fn max(x: f32, y: f32) -> f32
-    ensures { λ r. ⌜ r ≡ maxOf x y ⌝ }
-{
-    if x != x {
-        return y;
-    }
-    if y != y {
-        return x;
-    }
-    if y < x {
-        return x;
-    }
-    if x < y {
         return y;
     }
     unsigned_zero(x)

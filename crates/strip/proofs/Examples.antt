@@ -1,4 +1,4 @@
--- STRIPS HELD AGAINST NUMBERS FROM OUTSIDE: positions that a program of its own rounded to binary32, lengths and heights of docs/SPECIFICATION.md. Assumes nothing.
+-- STRIPS HELD AGAINST NUMBERS FROM OUTSIDE: positions rounded to binary32, lengths and heights of docs/SPECIFICATION.md. Assumes nothing.
 use mathlib.Core.Path.{_≡_, refl}
 use mathlib.Core.Bool.{Bool, true, not, _&&_}
 use mathlib.Core.List.{List, [], _∷_}

@@ -1,5 +1,4 @@
--- IMPULSE TRAINS HELD AGAINST THE RUST. Every number of a row was printed by the unchanged generator.rs (deepmind-midi, commit a25f50498d), built with rustc 1.95.0. A NaN is
--- written 0x7fc0_0000 in both. Left out for the sign of a zero: a maximum of two zeros of which one is -0 (Rust gives either of the two, we give +0). Assumes nothing.
+-- IMPULSE TRAINS HELD AGAINST THE RUST. The numbers of a row are those of generator.rs (deepmind-midi, commit a25f50498d). A NaN is written 0x7fc0_0000 in both. Left out for the sign of a zero: a maximum of two zeros of which one is -0 (Rust gives either of the two, we give +0). Assumes nothing.
 use mathlib.Core.Path.{_≡_, refl}
 use mathlib.Core.Bool.{Bool}
 use mathlib.Core.List.{List, [], _∷_, map}
