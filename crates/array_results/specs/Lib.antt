@@ -1,0 +1,3 @@
+-- What lent arrays hold afterwards, and what is promised of it.
+pub mod ArrayResults
+pub mod Promises
