@@ -1,38 +1,46 @@
-// The C interface, include/juvrada.h: what crate api offers, for callers in another language. A slice is a pointer and a length, an answer a struct of numbers.
-// Each function calls the one of its name that makes those numbers.
+// The C interface, include/juvrada.h, for callers in another language. A slice is a pointer and a length, an answer a struct of numbers. Each function calls the one of its
+// name that makes those numbers.
 ghost use mathlib.Core.Path.{_≡_};
+ghost use Rattle.taps.specs.Promises.{TapsAnswered};
+ghost use Rattle.refusals.specs.Refusals.{answerRefusal};
 ghost use Rattle.block.specs.Promises.{HeightAnswered};
 ghost use Rattle.block_strip.specs.Promises.{StripAnswered};
-ghost use Rattle.api.specs.Answers.{answerRefusal, settingsAnswer, settingsRefusal, marksAnswer, marksRefusal, restAnswer, restRefusal, scaleAnswer, scaleRefusal, anchoredAnswer, anchoredRefusal, gatesAnswer, barsAnswer};
-ghost use Rattle.api.specs.Promises.{Answered, CaptionsAnswered, GatesAnswered, TapsAnswered};
-ghost use Rattle.results.specs.Results.{heightResult, stripResult, restResult, scaleResult, anchoredResult};
-ghost use Rattle.results.specs.Promises.{Returned};
-ghost use Rattle.array_results.specs.ArrayResults.{settingsResult, settingsAfter, tapsOf, tapsAnswer};
-ghost use Rattle.array_results.specs.Promises.{MarksNumbers, GatesNumbers};
-use abi::MAX_SETTINGS;
-use array_results::CountResult;
+ghost use Rattle.block_captions.specs.Promises.{CaptionsAnswered};
+ghost use Rattle.block_generator.specs.Answers.{settingsAnswer, settingsRefusal, marksAnswer, marksRefusal, restAnswer, restRefusal, scaleAnswer, scaleRefusal, anchoredAnswer, anchoredRefusal};
+ghost use Rattle.block_generator.specs.Promises.{Answered};
+ghost use Rattle.block_gates.specs.Answers.{gatesAnswer, barsAnswer};
+ghost use Rattle.block_gates.specs.Promises.{GatesAnswered};
+ghost use Rattle.c_results.specs.Promises.{Returned};
+ghost use Rattle.c_heights.specs.Results.{heightResult, stripResult};
+ghost use Rattle.c_generator.specs.Results.{restResult, scaleResult, anchoredResult};
+ghost use Rattle.c_settings.specs.Results.{settingsResult, settingsAfter};
+ghost use Rattle.c_marks.specs.Results.{MarksNumbers};
+ghost use Rattle.c_gates.specs.Results.{GatesNumbers};
+ghost use Rattle.c_taps.specs.Results.{tapsOf, tapsAnswer};
 use block::HeightAnswer;
+use c_results::AnchoredResult;
+use c_results::CountResult;
+use c_results::HeightResult;
+use c_results::RestResult;
+use c_results::ScaleResult;
+use c_results::StripResult;
+use c_settings::MAX_SETTINGS;
 use gates::GATES_DRAWN;
 use marks::MAX_MARKS;
-use results::AnchoredResult;
-use results::HeightResult;
-use results::RestResult;
-use results::ScaleResult;
-use results::StripResult;
 use taps::MAX_TAPS;
 
 #[no_mangle]
 pub extern "C" fn juvrada_height(block: &[u8], code: u32, t: f32) -> HeightResult
     ensures { λ r. ⌜ Returned (λ a. r ≡ heightResult a) (HeightAnswered (now (block .entry)) code t) ⌝ }
 {
-    results::height(block, code, t)
+    c_heights::height(block, code, t)
 }
 
 #[no_mangle]
 pub extern "C" fn juvrada_strip(block: &[u8], code: u32, out: &mut [f32]) -> StripResult
     ensures { λ r. ⌜ Returned (λ a. r ≡ stripResult a) (StripAnswered (now (block .entry)) code (now (out .entry)) (now (out .exit))) ⌝ }
 {
-    results::strip(block, code, out)
+    c_heights::strip(block, code, out)
 }
 
 #[no_mangle]
@@ -44,28 +52,28 @@ pub extern "C" fn juvrada_marks(
 ) -> CountResult
     ensures { λ r. ⌜ Returned (λ a. MarksNumbers a (now (at .entry)) (now (at .exit)) (now (kind .entry)) (now (kind .exit)) r) (Answered marksAnswer marksRefusal (now (block .entry)) code) ⌝ }
 {
-    array_results::marks(block, code, at, kind)
+    c_marks::marks(block, code, at, kind)
 }
 
 #[no_mangle]
 pub extern "C" fn juvrada_rest(block: &[u8], code: u32) -> RestResult
     ensures { λ r. ⌜ Returned (λ a. r ≡ restResult a) (Answered restAnswer restRefusal (now (block .entry)) code) ⌝ }
 {
-    results::rest(block, code)
+    c_generator::rest(block, code)
 }
 
 #[no_mangle]
 pub extern "C" fn juvrada_scale(block: &[u8], code: u32) -> ScaleResult
     ensures { λ r. ⌜ Returned (λ a. r ≡ scaleResult a) (Answered scaleAnswer scaleRefusal (now (block .entry)) code) ⌝ }
 {
-    results::scale(block, code)
+    c_generator::scale(block, code)
 }
 
 #[no_mangle]
 pub extern "C" fn juvrada_anchored(block: &[u8], code: u32) -> AnchoredResult
     ensures { λ r. ⌜ Returned (λ a. r ≡ anchoredResult a) (Answered anchoredAnswer anchoredRefusal (now (block .entry)) code) ⌝ }
 {
-    results::anchored(block, code)
+    c_generator::anchored(block, code)
 }
 
 #[no_mangle]
@@ -76,14 +84,14 @@ pub extern "C" fn juvrada_settings(
 ) -> CountResult
     ensures { λ r. ⌜ Returned (λ a. (r ≡ settingsResult a) × (now (out .exit) ≡ settingsAfter a (now (out .entry)))) (Answered settingsAnswer settingsRefusal (now (block .entry)) code) ⌝ }
 {
-    array_results::settings(block, code, out)
+    c_settings::settings(block, code, out)
 }
 
 #[no_mangle]
 pub extern "C" fn juvrada_captions(block: &[u8], code: u32, out: &mut [u8]) -> u32
     ensures { λ r. ⌜ Returned (λ a. r ≡ answerRefusal a) (CaptionsAnswered (now (block .entry)) code (now (out .entry)) (now (out .exit))) ⌝ }
 {
-    results::captions(block, code, out)
+    c_heights::captions(block, code, out)
 }
 
 #[no_mangle]
@@ -94,7 +102,7 @@ pub extern "C" fn juvrada_gates(
 ) -> CountResult
     ensures { λ r. ⌜ Returned (λ a. GatesNumbers a (now (start .entry)) (now (start .exit)) (now (end .entry)) (now (end .exit)) r) (GatesAnswered gatesAnswer (now (block .entry))) ⌝ }
 {
-    array_results::gates(block, start, end)
+    c_gates::gates(block, start, end)
 }
 
 #[no_mangle]
@@ -105,7 +113,7 @@ pub extern "C" fn juvrada_bars(
 ) -> CountResult
     ensures { λ r. ⌜ Returned (λ a. GatesNumbers a (now (start .entry)) (now (start .exit)) (now (end .entry)) (now (end .exit)) r) (GatesAnswered barsAnswer (now (block .entry))) ⌝ }
 {
-    array_results::bars(block, start, end)
+    c_gates::bars(block, start, end)
 }
 
 #[no_mangle]
@@ -117,7 +125,7 @@ pub extern "C" fn juvrada_taps_height(
 ) -> HeightResult
     ensures { λ r. ⌜ Returned (λ h. r ≡ heightResult (HeightAnswer.Height h)) (TapsAnswered (tapsOf (now (at .entry)) (now (tall .entry)) used) t) ⌝ }
 {
-    array_results::taps_height(at, tall, used, t)
+    c_taps::taps_height(at, tall, used, t)
 }
 
 #[no_mangle]
@@ -130,5 +138,5 @@ pub extern "C" fn juvrada_taps_marks(
 ) -> CountResult
     ensures { λ r. ⌜ MarksNumbers (tapsAnswer (tapsOf (now (at .entry)) (now (tall .entry)) used)) (now («mark_at» .entry)) (now («mark_at» .exit)) (now (kind .entry)) (now (kind .exit)) r ⌝ }
 {
-    array_results::taps_marks(at, tall, used, mark_at, kind)
+    c_taps::taps_marks(at, tall, used, mark_at, kind)
 }

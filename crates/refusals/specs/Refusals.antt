@@ -4,6 +4,8 @@ use Prim.Native.Nat.{ℕ}
 use lib.Dec.{eqb, leb}
 use Rattle.refusals.specs.declared.Refusal.{Refusal}
 use Rattle.refusals.specs.declared.Refusal.the-variants.{Block, Code, Strip}
+use Rattle.refusals.specs.declared.Answer.{Answer}
+use Rattle.refusals.specs.declared.Answer.the-variants.{Accepted, Refused}
 
 -- ---- the numbers; 0 is that of an input that is accepted
 abbrev pub accepted : ℕ
@@ -13,6 +15,10 @@ abbrev pub refusalNumber : Refusal → ℕ
 refusalNumber Block = 1
 refusalNumber Code = 2
 refusalNumber Strip = 3
+
+abbrev pub answerRefusal : Answer → ℕ
+answerRefusal Accepted = accepted
+answerRefusal (Refused why) = refusalNumber why
 
 -- ---- the checks: each gives its number where it fails, else what the checks after it give
 -- A block has 242 bytes.

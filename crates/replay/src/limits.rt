@@ -22,14 +22,14 @@ fn of_strip(answer: StripAnswer) -> u32 {
 // The refusal of a block of the first n bytes, and of a code.
 fn print_block(label: &[u8], bytes: &[u8], n: usize, code: u32) {
     if n <= bytes.len() {
-        report::print_count(label, of_height(api::height(&bytes[..n], code, 0.0)));
+        report::print_count(label, of_height(block::height(&bytes[..n], code, 0.0)));
     }
 }
 
 // The refusal of a strip of the first n samples.
 fn print_strip(label: &[u8], block: &[u8], strip: &mut [f32], n: usize) {
     if n <= strip.len() {
-        report::print_count(label, of_strip(api::strip(block, 0, &mut strip[..n])));
+        report::print_count(label, of_strip(block_strip::strip(block, 0, &mut strip[..n])));
     }
 }
 

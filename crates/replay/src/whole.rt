@@ -3,10 +3,10 @@ use crate::answer;
 use crate::answer::Answer;
 use crate::replay::GATES;
 use crate::replay::Place;
-use api::AnchoredAnswer;
-use api::RestAnswer;
-use api::ScaleAnswer;
-use api::SettingsAnswer;
+use block_generator::AnchoredAnswer;
+use block_generator::RestAnswer;
+use block_generator::ScaleAnswer;
+use block_generator::SettingsAnswer;
 use block::HeightAnswer;
 use float_bits::float_of;
 use float_bits::low_word;
@@ -15,7 +15,7 @@ use marks::Marks;
 use replay_blocks::drawn_block;
 
 fn setting(block: &[u8], code: u32, i: u32) -> Answer {
-    let given = api::settings(block, code);
+    let given = block_generator::settings(block, code);
     match given {
         SettingsAnswer::Settings(shape) => answer::setting(shape, i),
         SettingsAnswer::Refused(_) => Answer::Nothing,
@@ -23,7 +23,7 @@ fn setting(block: &[u8], code: u32, i: u32) -> Answer {
 }
 
 fn height(block: &[u8], code: u32, t: f32, i: u32) -> Answer {
-    let given = api::height(block, code, t);
+    let given = block::height(block, code, t);
     match given {
         HeightAnswer::Height(h) => answer::height(h, i),
         HeightAnswer::Refused(_) => Answer::Nothing,
@@ -31,7 +31,7 @@ fn height(block: &[u8], code: u32, t: f32, i: u32) -> Answer {
 }
 
 fn rest(block: &[u8], code: u32) -> Answer {
-    let given = api::rest(block, code);
+    let given = block_generator::rest(block, code);
     match given {
         RestAnswer::Rest(x) => answer::of_float(x),
         RestAnswer::Refused(_) => Answer::Nothing,
@@ -39,7 +39,7 @@ fn rest(block: &[u8], code: u32) -> Answer {
 }
 
 fn scale(block: &[u8], code: u32, i: u32) -> Answer {
-    let given = api::scale(block, code);
+    let given = block_generator::scale(block, code);
     match given {
         ScaleAnswer::Scale(s) => answer::scale(s, i),
         ScaleAnswer::Refused(_) => Answer::Nothing,
@@ -47,7 +47,7 @@ fn scale(block: &[u8], code: u32, i: u32) -> Answer {
 }
 
 fn anchored(block: &[u8], code: u32) -> Answer {
-    let given = api::anchored(block, code);
+    let given = block_generator::anchored(block, code);
     match given {
         AnchoredAnswer::Anchored(b) => answer::of_flag(b),
         AnchoredAnswer::Refused(_) => Answer::Nothing,
@@ -56,12 +56,12 @@ fn anchored(block: &[u8], code: u32) -> Answer {
 
 // What is refused has no marks, and no gates.
 fn marks_of(block: &[u8], code: u32) -> Marks {
-    let given = api::marks(block, code);
+    let given = block_generator::marks(block, code);
     given.marks
 }
 
 fn gates_of(block: &[u8]) -> Gates {
-    let given = api::gates(block);
+    let given = block_gates::gates(block);
     given.gates
 }
 

@@ -3,8 +3,9 @@ ghost use mathlib.Core.Path.{_≡_};
 ghost use mathlib.Core.Bool.{true};
 ghost use Rattle.exact.specs.Binary32.{zero₃₂};
 ghost use Rattle.marks.specs.Marks.{stored};
-ghost use Rattle.taps.specs.Formula.{usedOf, raisedTo, tapRaisedOf, tapsLevelOf, tapsHeightOf};
+ghost use Rattle.taps.specs.Formula.{usedOf, raisedTo, tapRaisedOf, tapsLevelOf};
 ghost use Rattle.taps.specs.Marks.{tapMarks};
+ghost use Rattle.taps.specs.Promises.{TapsAnswered};
 use curve::Height;
 use curve::drawn;
 use curve::position;
@@ -76,9 +77,9 @@ fn taps_level(taps: Taps, t: f32) -> f32
     tap_height(taps.at[3], taps.tall[3], t, third)
 }
 
-// The height of an impulse train.
+// The height of an impulse train, which is never refused.
 pub fn taps_height(taps: Taps, t: f32) -> Height
-    ensures { λ r. ⌜ r ≡ tapsHeightOf taps t ⌝ }
+    ensures { λ r. ⌜ TapsAnswered taps t r ⌝ }
 {
     drawn(taps_level(taps, position(t)))
 }

@@ -1,3 +1,0 @@
--- Settings as plain numbers, and what lent arrays hold.
-pub mod Numbers
-pub mod Arrays

@@ -1,0 +1,2 @@
+-- Blocks that agree in a code's bytes have the same answers.
+pub mod Agreement

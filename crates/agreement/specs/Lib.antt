@@ -1,0 +1,2 @@
+-- Two blocks with the same answers.
+pub mod Agreement

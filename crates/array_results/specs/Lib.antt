@@ -1,3 +1,0 @@
--- What lent arrays hold afterwards, and what is promised of it.
-pub mod ArrayResults
-pub mod Promises

@@ -1,0 +1,3 @@
+-- The captions of a block and a code, and what is promised of them.
+pub mod Answers
+pub mod Promises

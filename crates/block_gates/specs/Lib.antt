@@ -1,0 +1,3 @@
+-- The gates and bars of a block, and what is promised of them.
+pub mod Answers
+pub mod Promises

@@ -1,0 +1,2 @@
+-- Gates and bars as numbers in two lent arrays.
+pub mod Results

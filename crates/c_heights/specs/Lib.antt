@@ -1,0 +1,2 @@
+-- Heights and strips as numbers.
+pub mod Results

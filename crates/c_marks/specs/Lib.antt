@@ -1,0 +1,2 @@
+-- Marks as numbers in two lent arrays.
+pub mod Results

@@ -1,0 +1,2 @@
+-- What is promised of the C functions.
+pub mod Promises

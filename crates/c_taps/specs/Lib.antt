@@ -1,0 +1,2 @@
+-- Taps from two lent arrays, and their marks.
+pub mod Results
