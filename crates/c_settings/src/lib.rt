@@ -177,11 +177,7 @@ fn copy_settings(numbers: Numbers, out: &mut [f32; MAX_SETTINGS])
     }
 }
 
-pub fn settings(
-    block: &[u8],
-    code: u32,
-    out: &mut [f32; MAX_SETTINGS],
-) -> CountResult
+pub fn settings(block: &[u8], code: u32, out: &mut [f32; MAX_SETTINGS]) -> CountResult
     ensures { λ r. ⌜ Returned (λ a. (r ≡ settingsResult a) × (now (out .exit) ≡ settingsAfter a (now (out .entry)))) (Answered settingsAnswer settingsRefusal (now (block .entry)) code) ⌝ }
 {
     let answer = block_generator::settings(block, code);

@@ -26,12 +26,7 @@ fn taps_of(at: &[f32; MAX_TAPS], tall: &[f32; MAX_TAPS], used: u32) -> Taps
     }
 }
 
-pub fn taps_height(
-    at: &[f32; MAX_TAPS],
-    tall: &[f32; MAX_TAPS],
-    used: u32,
-    t: f32,
-) -> HeightResult
+pub fn taps_height(at: &[f32; MAX_TAPS], tall: &[f32; MAX_TAPS], used: u32, t: f32) -> HeightResult
     ensures { λ r. ⌜ Returned (λ h. r ≡ heightResult (HeightAnswer.Height h)) (TapsAnswered (tapsOf (now (at .entry)) (now (tall .entry)) used) t) ⌝ }
 {
     let h = taps::taps_height(taps_of(at, tall, used), t);

@@ -29,7 +29,10 @@ fn print_block(label: &[u8], bytes: &[u8], n: usize, code: u32) {
 // The refusal of a strip of the first n samples.
 fn print_strip(label: &[u8], block: &[u8], strip: &mut [f32], n: usize) {
     if n <= strip.len() {
-        report::print_count(label, of_strip(block_strip::strip(block, 0, &mut strip[..n])));
+        report::print_count(
+            label,
+            of_strip(block_strip::strip(block, 0, &mut strip[..n])),
+        );
     }
 }
 
