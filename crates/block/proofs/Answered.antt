@@ -18,7 +18,7 @@ use Rattle.block.specs.Refusals.{chosenOf, heightAnswer, heightRefusal}
 use Rattle.block.specs.Promises.{HeightAnswered}
 use Rattle.block.proofs.KnownCode.{known-chosen}
 use Rattle.block.proofs.Refused.{height-checked}
-use Rattle.block.proofs.EveryCode.{block-height}
+use Rattle.code_heights.proofs.EveryCode.{block-height}
 
 -- a block of 242 bytes and a known code are given a height: the one that `heightAnswer` has
 accepted : (block : List ℕ) (code : ℕ) (t : Float) (c : Code) → codeOf code ≡ Known c → length block ≡ blockLength → (h : Height) × (heightAnswer (chosenOf block code) t ≡ AHeight h)

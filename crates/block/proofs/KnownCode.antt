@@ -15,7 +15,7 @@ use Rattle.codes.specs.Codes.{codeOf}
 use Rattle.codes.specs.Bytes.{blockLength, byteAt}
 use Rattle.block.specs.declared.Settled.the-variants.{Known as KnownCode}
 use Rattle.block.specs.declared.Chosen.the-variants.{Generator as AGenerator}
-use Rattle.block.specs.Shapes.{shapeOf}
+use Rattle.code_shapes.specs.Shapes.{shapeOf}
 use Rattle.block.specs.Refusals.{settledBy, settledOf, chosenBy, chosenOf}
 use Rattle.block.proofs.Refused.{settledOr, block-checked}
 

@@ -1,7 +1,6 @@
--- What is refused, the bytes that decide what a code draws, what a known code chooses, what is promised of its heights; refusals that are known beforehand.
+-- What is refused, what a known code chooses and which bytes decide it, what is promised of a height; refusals that are known beforehand.
 pub mod Refused
 pub mod Agreement
 pub mod KnownCode
-pub mod EveryCode
 pub mod Examples
 pub mod Answered

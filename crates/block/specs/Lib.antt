@@ -1,4 +1,3 @@
--- The shape of a block's code; what is refused; what is promised of a height.
-pub mod Shapes
+-- What is refused, and what is promised of a height.
 pub mod Refusals
 pub mod Promises

@@ -1,62 +1,16 @@
 // A block of a program's bytes and a generator's code, read as a generator or refused, and the height of what is read.
 ghost use mathlib.Core.Path.{_≡_};
-ghost use lib.ListN.{length};
-ghost use Rattle.settings.specs.Settings.{fadeOf};
-ghost use Rattle.generator.specs.Heights.{heightOf};
-ghost use Rattle.codes.specs.Bytes.{byteAt, blockLength, envelopeFirst, lfoFirst, fadeByte};
-ghost use Rattle.block.specs.Shapes.{envelopeAt, lfoAt, oscillatorAt, shapeOf};
 ghost use Rattle.block.specs.Refusals.{settledOf, chosenOf};
 ghost use Rattle.block.specs.Promises.{HeightAnswered};
-use codes::ATTACK_CURVE;
+use builders::of_shape;
+use code_heights::height_at;
+use code_shapes::shape_at;
 use codes::Code;
 use codes::CodeRead;
-use codes::DECAY;
-use codes::DECAY_CURVE;
-use codes::DEPTH;
-use codes::EnvelopeId;
-use codes::KEY_SYNC;
-use codes::LfoId;
-use codes::NOISE_LEVEL;
-use codes::OSCILLATOR_TWO_LEVEL;
-use codes::OscillatorId;
-use codes::POLE;
-use codes::PULSE;
-use codes::RELEASE;
-use codes::RELEASE_CURVE;
-use codes::RESONANCE;
-use codes::SAW;
-use codes::SHAPE;
-use codes::SLEW;
-use codes::SOURCE;
-use codes::SUSTAIN;
-use codes::SUSTAIN_CURVE;
 use codes::code_read;
-use codes::envelope_first;
-use codes::fade_byte;
-use codes::lfo_first;
 use curve::Height;
-use envelope::envelope_height;
-use fade::fade_height;
-use filter::filter_height;
 use generator::Generator;
-use generator::Shape;
-use generator::of_shape;
-use lfo::lfo_height;
-use noise::noise_height;
-use oscillator::oscillator_height;
 use refusals::Refusal;
-use settings::Envelope;
-use settings::Fade;
-use settings::Lfo;
-use settings::Oscillator;
-use settings::envelope_from;
-use settings::fade_from;
-use settings::high_pass;
-use settings::lfo_from;
-use settings::low_pass_from;
-use settings::noise_from;
-use settings::oscillator_one_from;
-use settings::oscillator_two_from;
 
 // What a block and a code's number come to.
 pub enum Settled {
@@ -76,100 +30,6 @@ pub enum HeightAnswer {
 
 // The bytes of a block.
 pub const BLOCK: usize = 242;
-
-// ---- settings, from the bytes of a whole block
-pub fn envelope_at(block: &[u8], id: EnvelopeId) -> Envelope
-    requires { ⌜ length (now block) ≡ blockLength ⌝ }
-    ensures { λ r. ⌜ r ≡ envelopeAt (byteAt (now (block .entry))) (envelopeFirst id) ⌝ }
-{
-    let from = envelope_first(id);
-    envelope_from(
-        block[from],
-        block[from + DECAY],
-        block[from + SUSTAIN],
-        block[from + RELEASE],
-        block[from + ATTACK_CURVE],
-        block[from + DECAY_CURVE],
-        block[from + SUSTAIN_CURVE],
-        block[from + RELEASE_CURVE],
-    )
-}
-
-pub fn lfo_at(block: &[u8], id: LfoId, unipolar: bool) -> Lfo
-    requires { ⌜ length (now block) ≡ blockLength ⌝ }
-    ensures { λ r. ⌜ r ≡ lfoAt (byteAt (now (block .entry))) (lfoFirst id) unipolar ⌝ }
-{
-    let from = lfo_first(id);
-    lfo_from(
-        block[from + SHAPE],
-        block[from + SLEW],
-        block[from + KEY_SYNC],
-        unipolar,
-    )
-}
-
-pub fn fade_at(block: &[u8], id: LfoId) -> Fade
-    requires { ⌜ length (now block) ≡ blockLength ⌝ }
-    ensures { λ r. ⌜ r ≡ fadeOf (byteAt (now (block .entry)) (fadeByte id)) ⌝ }
-{
-    let from = fade_byte(id);
-    fade_from(block[from])
-}
-
-pub fn oscillator_at(block: &[u8], id: OscillatorId) -> Oscillator
-    requires { ⌜ length (now block) ≡ blockLength ⌝ }
-    ensures { λ r. ⌜ r ≡ oscillatorAt (byteAt (now (block .entry))) id ⌝ }
-{
-    match id {
-        OscillatorId::One => oscillator_one_from(
-            block[SOURCE],
-            block[PULSE],
-            block[SAW],
-            block[DEPTH],
-        ),
-        OscillatorId::Two => oscillator_two_from(block[OSCILLATOR_TWO_LEVEL]),
-    }
-}
-
-// The shape of a code, from the bytes that the code reads.
-pub fn shape_at(block: &[u8], code: Code) -> Shape
-    requires { ⌜ length (now block) ≡ blockLength ⌝ }
-    ensures { λ r. ⌜ r ≡ shapeOf code (byteAt (now (block .entry))) ⌝ }
-{
-    match code {
-        Code::Envelope(id) => Shape::Envelope(envelope_at(block, id)),
-        Code::Lfo(id) => Shape::Lfo(lfo_at(block, id, false)),
-        Code::LfoUnipolar(id) => Shape::Lfo(lfo_at(block, id, true)),
-        Code::Fade(id) => Shape::Fade(fade_at(block, id)),
-        Code::LowPass => Shape::Filter(low_pass_from(block[RESONANCE], block[POLE])),
-        Code::HighPass => Shape::Filter(high_pass()),
-        Code::Oscillator(id) => Shape::Oscillator(oscillator_at(block, id)),
-        Code::Noise => Shape::Noise(noise_from(block[NOISE_LEVEL])),
-    }
-}
-
-// The height of a code's shape, which is never stored: a single height so takes as long as its curve. The ids of cheap curves are matched here, so that their bytes are constants.
-fn height_at(block: &[u8], code: Code, t: f32) -> Height
-    requires { ⌜ length (now block) ≡ blockLength ⌝ }
-    ensures { λ r. ⌜ r ≡ heightOf (shapeOf code (byteAt (now (block .entry)))) t ⌝ }
-{
-    match code {
-        Code::Envelope(id) => envelope_height(envelope_at(block, id), t),
-        Code::Lfo(id) => lfo_height(lfo_at(block, id, false), t),
-        Code::LfoUnipolar(id) => lfo_height(lfo_at(block, id, true), t),
-        Code::Fade(id) => match id {
-            LfoId::One => fade_height(fade_at(block, LfoId::One), t),
-            LfoId::Two => fade_height(fade_at(block, LfoId::Two), t),
-        },
-        Code::LowPass => filter_height(low_pass_from(block[RESONANCE], block[POLE]), t),
-        Code::HighPass => filter_height(high_pass(), t),
-        Code::Oscillator(id) => match id {
-            OscillatorId::One => oscillator_height(oscillator_at(block, OscillatorId::One), t),
-            OscillatorId::Two => oscillator_height(oscillator_at(block, OscillatorId::Two), t),
-        },
-        Code::Noise => noise_height(noise_from(block[NOISE_LEVEL]), t),
-    }
-}
 
 // ---- the block's length is tested first, then the code
 pub fn settle(block: &[u8], code: u32) -> Settled

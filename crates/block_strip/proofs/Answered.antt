@@ -19,11 +19,11 @@ use Rattle.block.specs.declared.Chosen.{Chosen}
 use Rattle.block.specs.declared.Chosen.the-variants.{Generator as AGenerator, Refused}
 use Rattle.codes.specs.Codes.{codeOf}
 use Rattle.codes.specs.Bytes.{byteAt, blockLength}
-use Rattle.block.specs.Shapes.{shapeOf}
+use Rattle.code_shapes.specs.Shapes.{shapeOf}
 use Rattle.block.specs.Refusals.{chosenOf}
 use Rattle.block.proofs.KnownCode.{known-chosen}
 use Rattle.block.proofs.Refused.{refusalOr, chosen-checked}
-use Rattle.block.proofs.EveryCode.{block-height}
+use Rattle.code_heights.proofs.EveryCode.{block-height}
 use Rattle.block_strip.specs.declared.StripAnswer.{StripAnswer}
 use Rattle.block_strip.specs.declared.StripAnswer.the-variants.{Filled as AStrip, Refused as NoStrip}
 use Rattle.block_strip.specs.Strips.{stripAnswer, stripAfter, stripRefusal}

@@ -13,7 +13,7 @@ use Rattle.codes.specs.declared.CodeRead.the-variants.{Known}
 use Rattle.codes.specs.Codes.{codeOf}
 use Rattle.codes.specs.Bytes.{byteAt, blockLength}
 use Rattle.block.specs.Refusals.{chosenOf}
-use Rattle.block.specs.Promises.{CodePromised}
+use Rattle.code_heights.specs.Promises.{CodePromised}
 use Rattle.block_strip.specs.declared.StripAnswer.{StripAnswer}
 use Rattle.block_strip.specs.Strips.{stripAnswer, stripAfter, stripRefusal}
 

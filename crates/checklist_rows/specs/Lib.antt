@@ -1,5 +1,3 @@
--- The trials of four rows of the checklist, and the rows.
+-- The trials of the empty program, and four rows of the checklist.
 pub mod Empty
-pub mod Shapes
-pub mod Slew
 pub mod Rows

@@ -5,11 +5,11 @@ use Rattle.trials.specs.declared.Trial.{Trial}
 use Rattle.trials.specs.declared.Row.{Row}
 use Rattle.trials.specs.Trials.{rowOf, numbered}
 use Rattle.edge_trials.specs.Edges.{knownTrial, beyondTrial}
+use Rattle.shape_trials.specs.Shapes.{unnamedTrial, namedTrial}
+use Rattle.slew_trials.specs.Slew.{slewTrial}
 use Rattle.checklist_rows.specs.declared.Kind.{Kind}
 use Rattle.checklist_rows.specs.declared.Kind.the-variants.{Empty, Unnamed, Named, Known, Beyond, Slew}
 use Rattle.checklist_rows.specs.Empty.{emptyTrial}
-use Rattle.checklist_rows.specs.Shapes.{unnamedTrial, namedTrial}
-use Rattle.checklist_rows.specs.Slew.{slewTrial}
 
 -- Trial n of a kind.
 unfoldable pub trialOf : Kind → ℕ → Trial

@@ -1,8 +1,6 @@
 // Four rows of the checklist: the empty program, every shape byte, both edges, and slew at 1 and at 255. A row's trials are numbered; what each compares is a function of its
 // number.
 mod empty;
-mod shapes;
-mod slew;
 
 ghost use mathlib.Core.Path.{_≡_};
 ghost use Rattle.trials.specs.Trials.{rowOf, numbered};
@@ -10,6 +8,9 @@ ghost use Rattle.trials.specs.Noted.{notedAll};
 ghost use Rattle.checklist_rows.specs.Rows.{trialOf, emptyRow, shapesRow, edgesRow, slewRow};
 use edge_trials::beyond_trial;
 use edge_trials::known_trial;
+use shape_trials::named_trial;
+use shape_trials::unnamed_trial;
+use slew_trials::slew_trial;
 use trials::Row;
 use trials::Trial;
 use trials::note;
@@ -30,11 +31,11 @@ fn trial(kind: Kind, n: u16) -> Trial
 {
     match kind {
         Kind::Empty => empty::empty_trial(n),
-        Kind::Unnamed => shapes::unnamed_trial(n),
-        Kind::Named => shapes::named_trial(n),
+        Kind::Unnamed => unnamed_trial(n),
+        Kind::Named => named_trial(n),
         Kind::Known => known_trial(n),
         Kind::Beyond => beyond_trial(n),
-        Kind::Slew => slew::slew_trial(n),
+        Kind::Slew => slew_trial(n),
     }
 }
 

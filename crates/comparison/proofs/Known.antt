@@ -3,8 +3,8 @@ use mathlib.Core.Path.{_≡_}
 use Rattle.generator.specs.declared.Shape.{Shape}
 use Rattle.generator.specs.declared.Generator.{Generator}
 use Rattle.generator.specs.Generator.{generatorOf}
-use Rattle.comparison.specs.declared.Largest.{Largest as ALargest}
-use Rattle.comparison.specs.Largest.{comparedSamples, largestOf}
+use Rattle.largest_difference.specs.declared.Largest.{Largest as ALargest}
+use Rattle.largest_difference.specs.Largest.{comparedSamples, largestOf}
 
 pub known-largest : (s t : Shape) (g h : Generator) (l : ALargest) → g ≡ generatorOf s → h ≡ generatorOf t → l ≡ largestOf (g .shape) (h .shape) comparedSamples → l ≡ largestOf s t comparedSamples
 unfolding generatorOf

@@ -1,5 +1,4 @@
--- What the loops need; blocks whose bytes agree; that the largest difference is the largest.
+-- What the loops need; blocks whose bytes agree; the largest difference of two shapes' generators.
 pub mod SameBytes
 pub mod Steps
 pub mod Known
-pub mod Laws

@@ -8,8 +8,8 @@ use borrow.Author.Tests.{eqb-true, eq-eqb}
 use lib.Dec.{eqb}
 use Rattle.codes.specs.declared.Code.{Code}
 use Rattle.codes.specs.Bytes.{Agree, bytesOf}
-use Rattle.block.specs.Shapes.{shapeOf}
-use Rattle.block.proofs.Agreement.{agreement}
+use Rattle.code_shapes.specs.Shapes.{shapeOf}
+use Rattle.code_shapes.proofs.Agreement.{agreement}
 use Rattle.comparison_bytes.specs.Changes.{sameBytes, changeText, changesText}
 
 pub agree : (bytes : List ℕ) (a b : ℕ → ℕ) → sameBytes bytes a b ≡ true → Agree bytes a b

@@ -1,19 +1,14 @@
--- One code more, and one sample more. Assumes nothing.
+-- ONE CODE MORE. Assumes nothing.
 use mathlib.Core.Path.{_≡_, refl}
 use mathlib.Core.List.{List}
 use Prim.Native.Nat.{ℕ, _+_, _≤_}
 use native.Mathlib.Nat.{le-antisymm}
 use native.Mathlib.Numerals.{add-one}
-use lib.Ieee.{Float}
 use Rattle.text.specs.Text.{Puts}
 use Rattle.text.proofs.Writing.{_⨾_, puts-none}
-use Rattle.generator.specs.declared.Shape.{Shape}
 use Rattle.codes.specs.Codes.{codeOf}
-use Rattle.comparison.specs.declared.Largest.{Largest as ALargest}
-use Rattle.comparison.specs.Largest.{differenceAt, largerOf, largestOf}
 use Rattle.comparison.specs.Differences.{codeText, codesText, codeCount, codesCount}
 
--- ---- codes
 module _ (a b : ℕ → ℕ) where
   pub no-code : {t : List ℕ} {p : ℕ} → Puts t p (codesText 0 a b) t p
   unfolding codesText
@@ -36,12 +31,3 @@ module _ (a b : ℕ → ℕ) where
 
   pub all-counted : (k n m : ℕ) → k ≤ n → n ≤ k → m ≡ codesCount k a b → m ≡ codesCount n a b
   all-counted k n m h l f = let e : k ≡ n = le-antisymm h l in rw e at f
-
--- ---- samples
-module _ (s t : Shape) where
-  pub largest-more : (i : ℕ) (l r : ALargest) (d : Float) → l ≡ largestOf s t i → d ≡ differenceAt s t i → r ≡ largerOf l d i → r ≡ largestOf s t (i + 1)
-  unfolding largestOf
-  largest-more i l r d f g e = rw (add-one i) (rw (f, g) at e)
-
-  pub whole-strip : (i n : ℕ) (l : ALargest) → i ≤ n → n ≤ i → l ≡ largestOf s t i → l ≡ largestOf s t n
-  whole-strip i n l h k f = let e : i ≡ n = le-antisymm h k in rw e at f

@@ -11,14 +11,14 @@ use Rattle.codes.specs.declared.CodeRead.{CodeRead}
 use Rattle.codes.specs.declared.CodeRead.the-variants.{Known, Above}
 use Rattle.codes.specs.Codes.{codeNumber, codeOf}
 use Rattle.codes.specs.Bytes.{bytesOf, byteAt, gatesByte, blockLength}
-use Rattle.block.specs.Shapes.{shapeOf}
+use Rattle.code_shapes.specs.Shapes.{shapeOf}
 use Rattle.rows.specs.Rows.{ninePlaces}
 use Rattle.labels.specs.Names.{titleOf}
 use Rattle.program_name.specs.ProgramName.{nameInLine}
 use Rattle.undrawn_bytes.specs.Undrawn.{undrawnCount, undrawnPart}
 use Rattle.comparison_bytes.specs.Changes.{sameBytes, changesText}
-use Rattle.comparison.specs.declared.Largest.{Largest as ALargest}
-use Rattle.comparison.specs.Largest.{comparedSamples, positionAt, largestOf}
+use Rattle.largest_difference.specs.declared.Largest.{Largest as ALargest}
+use Rattle.largest_difference.specs.Largest.{comparedSamples, positionAt, largestOf}
 
 -- ---- a generator
 -- How far the old curve and the new are apart, and where.

@@ -1,3 +1,2 @@
 -- What differs between two programs.
-pub mod Largest
 pub mod Differences

@@ -5,10 +5,10 @@ ghost use lib.ListN.{length};
 ghost use Rattle.text.specs.Text.{Puts};
 ghost use Rattle.codes.specs.Codes.{codeOf};
 ghost use Rattle.codes.specs.Bytes.{byteAt, blockLength};
-ghost use Rattle.comparison.specs.Largest.{differenceAt, largerOf, largestOf};
 ghost use Rattle.comparison.specs.Differences.{largestText, generatorText, codeText, codesText, gateText, codeCount, codesCount, gateCount, namesText, countsText, programsText, differencesText};
 use block::BLOCK;
-use block::shape_at;
+use builders::of_shape;
+use code_shapes::shape_at;
 use codes::CODES;
 use codes::Code;
 use codes::CodeRead;
@@ -19,10 +19,10 @@ use comparison_bytes::put_changes;
 use comparison_bytes::put_code_changes;
 use comparison_bytes::same;
 use comparison_bytes::same_bytes;
-use generator::Generator;
-use generator::of_shape;
 use labels::put_title;
-use math::abs;
+use largest_difference::LAST;
+use largest_difference::Largest;
+use largest_difference::find_largest;
 use program_name::put_name_in_line;
 use rows::put_nine_places;
 use strip::sample_position;
@@ -31,52 +31,8 @@ use text::put_decimal;
 use undrawn_bytes::count_undrawn;
 use undrawn_bytes::put_undrawn_part;
 
-// The number of the last sample at which two curves are held against each other.
-const LAST: u16 = 1024;
-
 // The byte of the gates.
 const GATE: [u8; 1] = [GATE_TIME as u8];
-
-// How far two curves are apart where they are farthest, and the number of the first such sample.
-pub struct Largest {
-    pub size: f32,
-    pub index: u16,
-}
-
-// ---- the largest difference
-fn difference(g: Generator, h: Generator, i: u16) -> f32
-    ensures { λ r. ⌜ r ≡ differenceAt (g .shape) (h .shape) i ⌝ }
-{
-    let t = sample_position(i, LAST);
-    let a = g.at(t);
-    let b = h.at(t);
-    abs(a.height - b.height)
-}
-
-fn larger(found: Largest, size: f32, i: u16) -> Largest
-    ensures { λ r. ⌜ r ≡ largerOf found size i ⌝ }
-{
-    if found.size < size {
-        return Largest { size, index: i };
-    }
-    found
-}
-
-fn find_largest(g: Generator, h: Generator) -> Largest
-    ensures { λ r. ⌜ r ≡ largestOf (g .shape) (h .shape) 1025 ⌝ }
-{
-    let mut found = Largest {
-        size: 0.0,
-        index: 0,
-    };
-    let mut i: u16 = 0;
-    while i < 1025 {
-        let size = difference(g, h, i);
-        found = larger(found, size, i);
-        i += 1;
-    }
-    found
-}
 
 // ---- the lines of a generator
 fn put_largest(out: &mut [u8], at: usize, largest: Largest) -> usize

@@ -16,7 +16,7 @@ use Rattle.codes.specs.declared.CodeRead.{CodeRead}
 use Rattle.codes.specs.declared.CodeRead.the-variants.{Known, Above}
 use Rattle.codes.specs.Codes.{codeOf}
 use Rattle.codes.specs.Bytes.{blockLength, byteAt}
-use Rattle.block.specs.Shapes.{shapeOf}
+use Rattle.code_shapes.specs.Shapes.{shapeOf}
 use Rattle.text.specs.Text.{ascii}
 use Rattle.text.specs.Spelled.{decimalOf}
 use Rattle.dials.specs.Dials.{dialsOf}

@@ -3,7 +3,7 @@ use float_bits::low_byte;
 use generator::Generator;
 
 fn envelope_of(bytes: u64) -> Generator {
-    generator::envelope(
+    builders::envelope(
         low_byte(bytes / 0x100_0000_0000_0000),
         low_byte(bytes / 0x1_0000_0000_0000),
         low_byte(bytes / 0x100_0000_0000),
@@ -17,7 +17,7 @@ fn envelope_of(bytes: u64) -> Generator {
 
 // Shape, sync, slew.
 fn lfo_of(bytes: u64) -> Generator {
-    generator::lfo(
+    builders::lfo(
         low_byte(bytes / 0x1_0000),
         low_byte(bytes),
         low_byte(bytes / 0x100),
@@ -25,7 +25,7 @@ fn lfo_of(bytes: u64) -> Generator {
 }
 
 fn lfo_unipolar_of(bytes: u64) -> Generator {
-    generator::lfo_unipolar(
+    builders::lfo_unipolar(
         low_byte(bytes / 0x1_0000),
         low_byte(bytes),
         low_byte(bytes / 0x100),
@@ -34,7 +34,7 @@ fn lfo_unipolar_of(bytes: u64) -> Generator {
 
 // Source, pulse, saw, depth.
 fn oscillator_one_of(bytes: u64) -> Generator {
-    generator::oscillator_one(
+    builders::oscillator_one(
         low_byte(bytes / 0x100_0000),
         low_byte(bytes / 0x1_0000),
         low_byte(bytes / 0x100),
@@ -48,11 +48,11 @@ pub fn built(code: u8, bytes: u64) -> Generator {
         0..=2 => envelope_of(bytes),
         3 | 4 => lfo_of(bytes),
         5 | 6 => lfo_unipolar_of(bytes),
-        7 | 8 => generator::lfo_fade(low_byte(bytes)),
-        9 => generator::filter_response(low_byte(bytes / 0x100), low_byte(bytes)),
-        10 => generator::high_pass_response(),
+        7 | 8 => builders::lfo_fade(low_byte(bytes)),
+        9 => builders::filter_response(low_byte(bytes / 0x100), low_byte(bytes)),
+        10 => builders::high_pass_response(),
         11 => oscillator_one_of(bytes),
-        12 => generator::oscillator_two(low_byte(bytes)),
-        13..=255 => generator::noise(low_byte(bytes)),
+        12 => builders::oscillator_two(low_byte(bytes)),
+        13..=255 => builders::noise(low_byte(bytes)),
     }
 }

@@ -1,5 +1,5 @@
 -- `strip_at` fills with the heights of `shapeOf`, an arm for each kind of code. Assumes nothing.
-use Rattle.block.specs.Shapes.{shapeOf}
+use Rattle.code_shapes.specs.Shapes.{shapeOf}
 use mathlib.Core.Path.{sym}
 use borrow.Author.Needs.{needs}
 use Rattle.block_strip.proofs.strip_at.Statement.{statement}

@@ -1,5 +1,5 @@
 -- `strip_envelope` fills with the heights of an envelope's shape, by either loop. Assumes nothing.
-use Rattle.block.specs.Shapes.{shapeOf}
+use Rattle.code_shapes.specs.Shapes.{shapeOf}
 use mathlib.Core.Path.{sym}
 use borrow.Author.Needs.{needs}
 use Rattle.block_strip.proofs.strip_envelope.Statement.{statement}

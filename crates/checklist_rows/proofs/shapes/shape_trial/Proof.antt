@@ -1,9 +1,0 @@
--- `shape_trial` is `shapeTrial`. Assumes nothing.
-use borrow.Author.Needs.{needs}
-use Rattle.checklist_rows.specs.Shapes.{shapeTrial}
-use Rattle.checklist_rows.proofs.shapes.shape_trial.Statement.{statement}
-use Rattle.checklist_rows.proofs.shapes.shape_trial.Tie as tie
-
-pub shape-trial-spec : {M : Type 1} → statement M
-unfolding shapeTrial
-shape-trial-spec = tie.close (tie.spec (λ c κs. search needs) (λ c. simp (c .lfo-input .ensures)))

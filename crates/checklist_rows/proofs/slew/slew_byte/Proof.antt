@@ -1,9 +1,0 @@
--- `slew_byte` is `slewByte`. Assumes nothing.
-use borrow.Author.Tests.{ne-eqb}
-use Rattle.checklist_rows.specs.Slew.{slewByte}
-use Rattle.checklist_rows.proofs.slew.slew_byte.Statement.{statement}
-use Rattle.checklist_rows.proofs.slew.slew_byte.Tie as tie
-
-pub slew-byte-spec : {M : Type 1} → statement M
-unfolding slewByte
-slew-byte-spec = tie.close (tie.spec (λ c. simp (c .if1 .taken)) (λ c. simp (ne-eqb _ _ (c .if1 .left))))

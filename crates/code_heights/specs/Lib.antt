@@ -1,0 +1,2 @@
+-- What is promised of a code's height.
+pub mod Promises

@@ -1,0 +1,2 @@
+-- The shape of a code.
+pub mod Shapes

@@ -1,0 +1,3 @@
+-- What the loop needs; that the largest difference is the largest.
+pub mod Steps
+pub mod Laws

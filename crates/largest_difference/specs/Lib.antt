@@ -1,0 +1,2 @@
+-- How far two curves are apart.
+pub mod Largest
