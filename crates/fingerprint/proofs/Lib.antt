@@ -1,0 +1,3 @@
+-- The bits of an exclusive or, and the published check values.
+pub mod Bits
+pub mod Examples
