@@ -59,12 +59,12 @@ deliver() {
     part=
 }
 
-# Makes the page of what was gathered. It has the name of the block's file, without its folder; without a block there is none.
-page() { # BLOCK or ''
-    case $1 in
-    '') run sheet "$scratch/blocks" '</svg>' ;;
-    -) run sheet "$scratch/blocks" '</svg>' 'standard input' ;;
-    *) run sheet "$scratch/blocks" '</svg>' "${1##*/}" ;;
+# Makes a page of what was gathered, by its program. It has the name of the block's file, without its folder; without a block there is none.
+page() { # PROGRAM, BLOCK or ''
+    case $2 in
+    '') run "$1" "$scratch/blocks" '</svg>' ;;
+    -) run "$1" "$scratch/blocks" '</svg>' 'standard input' ;;
+    *) run "$1" "$scratch/blocks" '</svg>' "${2##*/}" ;;
     esac
 }
 

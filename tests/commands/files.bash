@@ -7,11 +7,14 @@ shows 'standard input' -
 same sheet-example 0 "$juvrada" sheet - < <(cat example)
 same sheet-example 0 "$juvrada" sheet <(cat example)
 same sheet-example 0 "$juvrada" sheet - < <(head -c 100 example; sleep 0.2; tail -c +101 example)
+same parameters-example 0 "$juvrada" parameters - <example
+shows 'standard input' -
 same heights-lfo 0 "$juvrada" heights - 3 17 <example
 same compare-different 1 "$juvrada" compare - changed <example
 same compare-different 1 "$juvrada" compare example - <changed
 # without a block it is the empty program, whatever is on standard input
 same sheet-empty 0 "$juvrada" sheet <example
+same parameters-empty 0 "$juvrada" parameters <example
 refused "standard input: 241 bytes; $block" "$juvrada" sheet - <short
 refused "standard input: more than 242 bytes; $block" "$juvrada" sheet - < <(cat long long)
 # closed, under each shell that sh may be: what they open takes the place of a closed stream in different ways
@@ -41,6 +44,7 @@ unwritable() {
 
 unwritable "$juvrada" sheet
 unwritable "$juvrada" sheet example
+unwritable "$juvrada" parameters example
 unwritable "$juvrada" compare example example
 unwritable "$juvrada" compare -q example example
 unwritable "$juvrada" compare --svg example changed
@@ -80,7 +84,10 @@ shows -x ./-x
 mkdir deep && cp example 'deep/a&b <c>'
 same sheet-example 0 "$juvrada" sheet 'deep/a&b <c>'
 shows 'a&amp;b &lt;c&gt;' 'deep/a&b <c>'
+same parameters-example 0 "$juvrada" parameters 'deep/a&b <c>'
+shows 'a&amp;b &lt;c&gt;' 'deep/a&b <c>'
 rm -r deep
+same parameters-example 0 "$juvrada" parameters -- example
 refused "no option '-x' $hint" "$juvrada" compare --svg example -x
 
 # what cannot be printed is escaped, so that an error is one line
@@ -109,6 +116,8 @@ run "$juvrada" sheet example -o page.svg
 expect "sheet -o after the block" eval '[ "$got" -eq 0 ] && [ ! -s out ] && cmp -s page.svg "$page"'
 run "$juvrada" -o page.svg sheet
 expect "sheet -o replaces a page" eval '[ "$got" -eq 0 ] && cmp -s page.svg "$here/expected/sheet-empty.out"'
+run "$juvrada" parameters example -o page.svg
+expect "parameters -o replaces a page" eval '[ "$got" -eq 0 ] && [ ! -s out ] && cmp -s page.svg "$here/expected/parameters-example.out"'
 run "$juvrada" compare -o page.svg example --svg changed
 expect "compare --svg -o" eval '[ "$got" -eq 1 ] && cmp -s page.svg "$here/expected/compare-over.out"'
 (umask 022 && "$juvrada" sheet -o open.svg && umask 077 && "$juvrada" sheet -o closed.svg)
@@ -131,6 +140,8 @@ for name in example ./example hard soft; do
 done
 refused "example: one of the inputs; $file" "$juvrada" sheet -o example - <example
 refused "full: 242 bytes, as a block has; remove it if it is none" "$juvrada" sheet -o full example
+refused "full: 242 bytes, as a block has; remove it if it is none" "$juvrada" parameters -o full example
+refused "example: one of the inputs; $file" "$juvrada" parameters -o example example
 expect "a block is written over" eval 'cmp -s example kept && cmp -s full "$here/blocks/full"'
 # through a link the file that it names is written, and the link stays
 ln -s folder/linked.svg link.svg

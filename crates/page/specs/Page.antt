@@ -6,8 +6,8 @@ use lib.Dec.{eqb}
 use lib.ListN.{length}
 use Rattle.codes.specs.Bytes.{byteAt, gatesByte, blockLength}
 use Rattle.text.specs.Text.{ascii}
-use Rattle.text.specs.Escaped.{escapedAll}
 use Rattle.program_name.specs.ProgramName.{nameInXml}
+use Rattle.provenance.specs.Provenance.{fileText}
 use Rattle.page_panels.specs.Panels.{panelsText, arpeggioText}
 
 -- ---- head and foot
@@ -26,19 +26,15 @@ headText file block =
     ascii "<title>" ++ nameText file block ++ ascii "</title>\n<text class='h' x='1150' y='1450'>DeepMind 12 program</text><text class='n' x='5500' y='1450'>" ++ nameText file block ++
     ascii "</text><path class='f' d='M1150 1750H28550'/>\n"
 
--- Which file the block is from.
-unfoldable pub fileText : List ℕ → List ℕ
-fileText file = cond (eqb (length file) 0) (ascii "No file") (ascii "File " ++ escapedAll file)
-
--- How to read the page, and what is not on it.
-unfoldable pub footText : List ℕ → List ℕ
-footText file =
-    ascii "<text x='1150' y='20200'>Bold: the bytes to dial in, 0 to 255. A, D, S, R: where attack, decay, sustain and release start. Dashed: the rest level. May start anywhere: a cycle that runs on, drawn from its start. A frame is 50 mm by 25 mm.</text>\n<text x='1150' y='20540'>" ++ fileText file ++
-    ascii ". The other parameters are not on this page.</text>\n</svg>\n"
+-- How to read the page, which file it is of, and where the parameters are that are not on it.
+unfoldable pub footText : List ℕ → List ℕ → List ℕ
+footText file block =
+    ascii "<text x='1150' y='20200'>Bold: the bytes to dial in, 0 to 255. A, D, S, R: where attack, decay, sustain and release start. Dashed: the rest level. May start anywhere: a cycle that runs on, drawn from its start. A frame is 50 mm by 25 mm.</text>\n<text x='1150' y='20540'>" ++ fileText file block ++
+    ascii ". All 242 parameters are on a page of their own: juvrada parameters.</text>\n</svg>\n"
 
 -- ---- the whole
 unfoldable pub pageOf : List ℕ → List ℕ → List ℕ → List ℕ
-pageOf file older block = styleText ++ headText file block ++ panelsText older block 14 ++ arpeggioText (byteAt block gatesByte) ++ footText file
+pageOf file older block = styleText ++ headText file block ++ panelsText older block 14 ++ arpeggioText (byteAt block gatesByte) ++ footText file block
 
 -- A block of another length has no page. An older block of another length has no curves.
 unfoldable pub pageText : List ℕ → List ℕ → List ℕ → List ℕ

@@ -3,14 +3,14 @@ ghost use mathlib.Core.Path.{_≡_};
 ghost use lib.ListN.{length};
 ghost use Rattle.text.specs.Text.{Puts};
 ghost use Rattle.codes.specs.Bytes.{blockLength};
-ghost use Rattle.page.specs.Page.{styleText, nameText, headText, fileText, footText, pageOf, pageText};
+ghost use Rattle.page.specs.Page.{styleText, nameText, headText, footText, pageOf, pageText};
 use block::BLOCK;
 use codes::GATE_TIME;
 use page_panels::put_arpeggio;
 use page_panels::put_panels;
 use program_name::put_name_in_xml;
+use provenance::put_file;
 use text::put;
-use text::put_escaped_all;
 
 // ---- head and foot
 fn put_style(out: &mut [u8], at: usize) -> usize
@@ -53,29 +53,19 @@ fn put_head(out: &mut [u8], at: usize, file: &[u8], block: &[u8]) -> usize
     )
 }
 
-fn put_file(out: &mut [u8], at: usize, file: &[u8]) -> usize
-    ensures { λ r. ⌜ Puts (now (out .entry)) at (fileText (now (file .entry))) (now (out .exit)) r ⌝ }
-{
-    if file.len() == 0 {
-        return put(out, at, b"No file");
-    }
-    let next = put(out, at, b"File ");
-    put_escaped_all(out, next, file)
-}
-
-fn put_foot(out: &mut [u8], at: usize, file: &[u8]) -> usize
-    ensures { λ r. ⌜ Puts (now (out .entry)) at (footText (now (file .entry))) (now (out .exit)) r ⌝ }
+fn put_foot(out: &mut [u8], at: usize, file: &[u8], block: &[u8]) -> usize
+    ensures { λ r. ⌜ Puts (now (out .entry)) at (footText (now (file .entry)) (now (block .entry))) (now (out .exit)) r ⌝ }
 {
     let mut next = put(
         out,
         at,
         b"<text x='1150' y='20200'>Bold: the bytes to dial in, 0 to 255. A, D, S, R: where attack, decay, sustain and release start. Dashed: the rest level. May start anywhere: a cycle that runs on, drawn from its start. A frame is 50 mm by 25 mm.</text>\n<text x='1150' y='20540'>",
     );
-    next = put_file(out, next, file);
+    next = put_file(out, next, file, block);
     put(
         out,
         next,
-        b". The other parameters are not on this page.</text>\n</svg>\n",
+        b". All 242 parameters are on a page of their own: juvrada parameters.</text>\n</svg>\n",
     )
 }
 
@@ -88,7 +78,7 @@ fn put_page(out: &mut [u8], file: &[u8], older: &[u8], block: &[u8]) -> usize
     next = put_head(out, next, file, block);
     next = put_panels(out, next, older, block);
     next = put_arpeggio(out, next, block[GATE_TIME]);
-    put_foot(out, next, file)
+    put_foot(out, next, file, block)
 }
 
 // Writes a block's page from the buffer's start on, and answers where it ends. `file` is the name of the block's file. Where `older` is a block too, its curves lie beneath.

@@ -17,7 +17,7 @@ use text::put;
 use text::put_decimal;
 
 // How many bytes a block has.
-const BYTES: u8 = 242;
+pub const BYTES: u8 = 242;
 
 // ---- which bytes are drawn
 // Whether the code of number k reads byte n.
@@ -36,7 +36,7 @@ fn reads(k: u8, n: u8) -> bool
 }
 
 // Whether a curve or the gates are drawn from byte n.
-fn is_drawn(n: u8) -> bool
+pub fn is_drawn(n: u8) -> bool
     ensures { λ r. ⌜ r ≡ drawn n ⌝ }
 {
     if n as usize == GATE_TIME {

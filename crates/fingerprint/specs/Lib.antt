@@ -1,0 +1,2 @@
+-- The CRC-32 of a list of bytes.
+pub mod Crc32

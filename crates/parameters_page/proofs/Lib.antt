@@ -1,0 +1,3 @@
+-- The rows, one after the other; some of them.
+pub mod ByteRows
+pub mod Examples

@@ -1,0 +1,2 @@
+-- What a page is of.
+pub mod Provenance
