@@ -20,20 +20,20 @@ use codes::LfoId;
 use codes::NOISE_LEVEL;
 use codes::POLE;
 use codes::RESONANCE;
+use envelope_strip::WIDE_SAMPLES;
+use envelope_strip::fill_envelope;
+use envelope_strip::fill_wide_envelope;
 use generator::Shape;
+use lfo_strip::fill_lfo;
 use refusals::Refusal;
 use settings::high_pass;
 use settings::low_pass_from;
 use settings::noise_from;
-use strip::WIDE_SAMPLES;
-use strip::fill_envelope;
-use strip::fill_fade;
-use strip::fill_filter;
-use strip::fill_lfo;
-use strip::fill_noise;
-use strip::fill_oscillator;
-use strip::fill_wide_envelope;
 use strip::fits;
+use tone_strip::fill_fade;
+use tone_strip::fill_filter;
+use tone_strip::fill_noise;
+use tone_strip::fill_oscillator;
 
 // The sum of the samples' steps.
 pub enum StripAnswer {

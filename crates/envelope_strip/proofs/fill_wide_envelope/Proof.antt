@@ -9,10 +9,10 @@ use Rattle.envelope.specs.Formula.{envelopeHeightOf}
 use Rattle.generator.specs.declared.Shape.the-variants.{Envelope as AnEnvelope}
 use Rattle.generator.specs.Heights.{heightOf}
 use Rattle.lists.specs.Written.{written}
 use Rattle.strip.specs.Strip.{filledOf}
 use Rattle.strip.proofs.Filling.{level-next, stepless, filled-whole}
-use Rattle.strip.proofs.fill_wide_envelope.Statement.{statement}
-use Rattle.strip.proofs.fill_wide_envelope.Tie as tie
+use Rattle.envelope_strip.proofs.fill_wide_envelope.Statement.{statement}
+use Rattle.envelope_strip.proofs.fill_wide_envelope.Tie as tie
 
 abbrev Inv-loop : tie.InvT-loop
 Inv-loop e out₀ n last i₀ out i = (length out ≡ length out₀) × (i ≤ n) × (out ≡ filledOf (AnEnvelope e) n i out₀)

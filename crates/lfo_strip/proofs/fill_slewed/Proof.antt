@@ -7,11 +7,11 @@ use borrow.Author.Needs.{needs}
 use lib.ListN.{length, length-set}
 use Rattle.generator.specs.declared.Shape.the-variants.{Lfo as AnLfo}
 use Rattle.lists.specs.Written.{written}
 use Rattle.strip.specs.Strip.{filledOf, stepSum}
-use Rattle.strip.proofs.Slew.{with-slew}
+use Rattle.lfo_strip.proofs.Slew.{with-slew}
 use Rattle.strip.proofs.Filling.{at-position, steps-small, total-small, sum-next, filled-next, filled-whole}
-use Rattle.strip.proofs.fill_slewed.Statement.{statement}
-use Rattle.strip.proofs.fill_slewed.Tie as tie
+use Rattle.lfo_strip.proofs.fill_slewed.Statement.{statement}
+use Rattle.lfo_strip.proofs.fill_slewed.Tie as tie
 
 abbrev Inv-loop : tie.InvT-loop
 Inv-loop l out₀ count last total₀ i₀ out total i =

@@ -6,12 +6,12 @@ use borrow.Author.Needs.{needs}
 use lib.ListN.{length, length-set}
 use Rattle.generator.specs.declared.Shape.the-variants.{Lfo as AnLfo}
 use Rattle.lists.specs.Written.{written}
 use Rattle.strip.specs.Strip.{filledOf}
-use Rattle.strip.proofs.Slew.{without-slew, without-steps}
+use Rattle.lfo_strip.proofs.Slew.{without-slew, without-steps}
 use Rattle.strip.proofs.SamplePositions.{sample-position}
 use Rattle.strip.proofs.Filling.{level-next, stepless, filled-whole}
-use Rattle.strip.proofs.fill_unslewed.Statement.{statement}
-use Rattle.strip.proofs.fill_unslewed.Tie as tie
+use Rattle.lfo_strip.proofs.fill_unslewed.Statement.{statement}
+use Rattle.lfo_strip.proofs.fill_unslewed.Tie as tie
 
 abbrev Inv-loop : tie.InvT-loop
 Inv-loop l out₀ n last i₀ out i = (length out ≡ length out₀) × (i ≤ n) × (out ≡ filledOf (AnLfo l) n i out₀)
