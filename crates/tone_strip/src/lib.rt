@@ -1,33 +1,17 @@
-// The strips of a fade, a filter, an oscillator and a noise. The caller has tested the length. A loop answers the sum of the steps, which only an LFO's heights take.
+// The strips of what is heard: a filter, an oscillator, a noise. The caller has tested the length. A loop answers the sum of the steps, which only an LFO's heights take.
 ghost use mathlib.Core.Path.{_≡_};
 ghost use Prim.Native.Nat.{_≤_};
 ghost use lib.ListN.{length};
 ghost use Rattle.strip.specs.Strip.{filledOf, stepSum};
-use fade::fade_height;
 use filter::filter_height;
 use generator::Shape;
 use noise::noise_height;
 use oscillator::oscillator_height;
-use settings::Fade;
 use settings::Filter;
 use settings::Noise;
 use settings::Oscillator;
 use strip::last_of;
 use strip::sample_position;
-
-pub fn fill_fade(f: Fade, out: &mut [f32]) -> u32
-    requires { ⌜ (2 ≤ length (now out)) × (length (now out) ≤ 4096) ⌝ }
-    ensures { λ r. ⌜ (r ≡ stepSum (Shape.Fade f) (length (now (out .entry))) (length (now (out .entry)))) × (now (out .exit) ≡ filledOf (Shape.Fade f) (length (now (out .entry))) (length (now (out .entry))) (now (out .entry))) ⌝ }
-{
-    let n = out.len();
-    let last = last_of(n);
-    let mut i: usize = 0;
-    while i < n {
-        out[i] = fade_height(f, sample_position(i as u16, last)).height;
-        i += 1;
-    }
-    0
-}
 
 pub fn fill_filter(f: Filter, out: &mut [f32]) -> u32
     requires { ⌜ (2 ≤ length (now out)) × (length (now out) ≤ 4096) ⌝ }
