@@ -40,7 +40,7 @@ loop-again c =
     let last = l .before .last-of .ensures in
     let position = c .before .before .sample-position .ensures in
     let height = c .before .slewed-height .ensures ∙ with-slew _ _ (start .pre .0) in
-    (filled-next s _ _ _ (inv .0) (c .before .before .before .loop-test .taken) _ last position (ap (λ (h : Height). h .height) height), sum-next s _ _ (at-position s _ _ _ last position height) (inv .1))
+    (filled-next s _ _ _ (inv .0) (search needs) _ last position (ap (λ (h : Height). h .height) height), sum-next s _ _ (at-position s _ _ _ last position height) (inv .1))
 
 returns : tie.Need-returns Inv-loop μ-loop
 returns c =

@@ -23,7 +23,7 @@ loop-again c =
     let l = c .before .before .before in
     let s = ANoise (l .before .before .before .args .s) in
     let height = ap (λ (h : Height). h .height) (c .noise-height .ensures) in
-    filled-next s _ _ _ (l .loop .inv) (c .before .before .loop-test .taken) _ (l .before .last-of .ensures) (c .before .sample-position .ensures) height
+    filled-next s _ _ _ (l .loop .inv) (search needs) _ (l .before .last-of .ensures) (c .before .sample-position .ensures) height
 
 returns : tie.Need-returns Inv-loop μ-loop
 unfolding heightOf noiseHeightOf drawnOf
