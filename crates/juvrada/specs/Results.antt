@@ -9,7 +9,7 @@ use Rattle.generator.specs.Generator.{scaleNumber, scaleValue}
 use Rattle.marks.specs.Marks.{stored}
 use Rattle.taps.specs.declared.Taps.{Taps}
 use Rattle.taps.specs.Formula.{usedOf}
-use Rattle.taps.specs.Marks.{tapMarks}
+use Rattle.tap_marks.specs.Marks.{tapMarks}
 use Rattle.abi.specs.Numbers.{settingsNumbers}
 use Rattle.lists.specs.Written.{written}
 use Rattle.abi.specs.Arrays.{settingAt, settingsUsed}

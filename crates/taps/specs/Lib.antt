@@ -1,4 +1,3 @@
--- An impulse train: its formula, its marks, and its exact height.
+-- An impulse train: its formula and its exact height.
 pub mod Formula
-pub mod Marks
 pub mod Exact

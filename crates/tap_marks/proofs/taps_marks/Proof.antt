@@ -5,11 +5,11 @@ use borrow.Author.Needs.{needs}
 use native.Mathlib.Numerals.{add-one}
 use Rattle.marks.specs.Marks.{noMarks, stored}
 use Rattle.marks.proofs.Stored.{push-more}
 use Rattle.taps.specs.Formula.{usedOf}
-use Rattle.taps.specs.Marks.{tapMarks}
-use Rattle.taps.proofs.UsedTaps.{all-used}
-use Rattle.taps.proofs.taps_marks.Statement.{statement}
-use Rattle.taps.proofs.taps_marks.Tie as tie
+use Rattle.tap_marks.specs.Marks.{tapMarks}
+use Rattle.tap_marks.proofs.AllTaps.{all-used}
+use Rattle.tap_marks.proofs.taps_marks.Statement.{statement}
+use Rattle.tap_marks.proofs.taps_marks.Tie as tie
 
 abbrev Inv-loop : tie.InvT-loop
 Inv-loop taps count marks₀ i₀ marks i = (i ≤ count) × (count ≤ 4) × (count ≡ usedOf taps) × (marks ≡ stored (tapMarks taps i))
