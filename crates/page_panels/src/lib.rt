@@ -9,7 +9,7 @@ ghost use Rattle.block.specs.Shapes.{shapeOf};
 ghost use Rattle.page_panels.specs.Panels.{placeText, panelEnd, drawnText, olderText, codePanel, panelText, panelsText, arpeggioText};
 use block::BLOCK;
 use block::shape_at;
-use block_strip::strip_at;
+use code_strip::strip_at;
 use codes::CODES;
 use codes::Code;
 use codes::CodeRead;

@@ -2,8 +2,8 @@
 use Rattle.block.specs.Shapes.{shapeOf}
 use mathlib.Core.Path.{sym}
 use borrow.Author.Needs.{needs}
-use Rattle.block_strip.proofs.strip_at.Statement.{statement}
-use Rattle.block_strip.proofs.strip_at.Tie as tie
+use Rattle.code_strip.proofs.strip_at.Statement.{statement}
+use Rattle.code_strip.proofs.strip_at.Tie as tie
 
 pub strip-at-spec : {M : Type 1} → statement M
 unfolding shapeOf

@@ -2,8 +2,8 @@
 use Rattle.block.specs.Shapes.{shapeOf}
 use mathlib.Core.Path.{sym}
 use borrow.Author.Needs.{needs}
-use Rattle.block_strip.proofs.strip_envelope.Statement.{statement}
-use Rattle.block_strip.proofs.strip_envelope.Tie as tie
+use Rattle.code_strip.proofs.strip_envelope.Statement.{statement}
+use Rattle.code_strip.proofs.strip_envelope.Tie as tie
 
 pub strip-envelope-spec : {M : Type 1} → statement M
 unfolding shapeOf
