@@ -6,7 +6,7 @@ use lib.Ieee.{Float, nan}
 use Rattle.marks.specs.Marks.{stored}
 use Rattle.taps.specs.declared.Taps.{Taps}
 use Rattle.taps.specs.Formula.{usedOf}
-use Rattle.taps.specs.Marks.{tapMarks}
+use Rattle.tap_marks.specs.Marks.{tapMarks}
 use Rattle.refusals.specs.declared.Answer.the-variants.{Accepted}
 use Rattle.block_generator.specs.declared.MarksAnswer.{MarksAnswer}
 

@@ -42,7 +42,7 @@ pub fn taps_marks(
 ) -> CountResult
     ensures { λ r. ⌜ MarksNumbers (tapsAnswer (tapsOf (now (at .entry)) (now (tall .entry)) used)) (now («mark_at» .entry)) (now («mark_at» .exit)) (now (kind .entry)) (now (kind .exit)) r ⌝ }
 {
-    let marks = taps::taps_marks(taps_of(at, tall, used));
+    let marks = tap_marks::taps_marks(taps_of(at, tall, used));
     let found = MarksAnswer {
         answer: Answer::Accepted,
         marks,

@@ -84,12 +84,12 @@ fn tap_answer(place: Place) -> Answer {
             taps::taps_height(taps, float_of(low_word(place.position))),
             place.index,
         ),
-        b'N' => answer::mark_count(taps::taps_marks(taps)),
-        b'M' => answer::mark_at(taps::taps_marks(taps), place.index),
-        b'K' => answer::mark_kind(taps::taps_marks(taps), place.index),
-        b'R' => answer::of_float(taps::taps_rest()),
-        b'C' => answer::scale(taps::taps_scale(), place.index),
-        b'A' => answer::of_flag(taps::taps_anchored()),
+        b'N' => answer::mark_count(tap_marks::taps_marks(taps)),
+        b'M' => answer::mark_at(tap_marks::taps_marks(taps), place.index),
+        b'K' => answer::mark_kind(tap_marks::taps_marks(taps), place.index),
+        b'R' => answer::of_float(tap_marks::taps_rest()),
+        b'C' => answer::scale(tap_marks::taps_scale(), place.index),
+        b'A' => answer::of_flag(tap_marks::taps_anchored()),
         _ => Answer::Nothing,
     }
 }

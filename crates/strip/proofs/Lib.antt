@@ -1,8 +1,7 @@
--- Which lengths fit, a slice written from its start, the laws of a strip, filling one, an LFO by its slew, each of the samples, and examples.
+-- Which lengths fit, the laws of a strip, filling one, where its samples lie, each of them, and examples.
 pub mod Lengths
 pub mod Laws
 pub mod Filling
 pub mod SamplePositions
-pub mod Slew
 pub mod Samples
 pub mod Examples

@@ -11,23 +11,19 @@ use Rattle.exact.specs.Fraction.{ratio}
 use Rattle.exact.specs.Value.{value}
 use Rattle.exact.specs.Binary32.{bits, zero₃₂, half₃₂}
 use Rattle.math.specs.Formulas.{absOf, maxOf, clampOf}
-use Rattle.lists.proofs.Rows.{allPass, allMatch}
+use Rattle.lists.proofs.Rows.{allPass}
 use Rattle.curve.specs.Curve.{positionOf, drawnOf}
 use Rattle.curve.proofs.Positions.{Level}
-use Rattle.marks.specs.Marks.{countOf, stored}
-use Rattle.marks.proofs.Examples.{isMark, hasMarks}
-use Rattle.lists.specs.Padded.{padded}
 use Rattle.taps.specs.declared.Taps.{Taps}
-use Rattle.taps.specs.Formula.{usedOf, atOf, tallOf, tapHeightOf, tapsLevelOf, tapsHeightOf}
-use Rattle.taps.specs.Marks.{tapMarks}
+use Rattle.taps.specs.Formula.{atOf, tallOf, tapHeightOf, tapsLevelOf, tapsHeightOf}
 use Rattle.taps.specs.Exact.{tapHeightℚ, tapsLevelℚ, tapsHeightℚ}
 use Rattle.taps.proofs.Ranges.{TapsRange}
 
-floats : List ℕ → List Float
+unfoldable pub floats : List ℕ → List Float
 floats ns = map (λ (n : ℕ). bits n) ns
 
 -- four positions and four heights by their bits, and how many are used
-taps : List ℕ → List ℕ → ℕ → Taps
+unfoldable pub taps : List ℕ → List ℕ → ℕ → Taps
 taps at tall used = record { at = floats at; tall = floats tall; used = used }
 
 -- there is no fifth tap
@@ -35,11 +31,11 @@ past : (i : ℕ) → suc (suc (suc (suc i))) < 4 → ⊥
 past i l = omega arith
 
 -- at 0.1, 0.5, 0.51 and 0.9, of the heights 1, 0.8, 0.6 and 0.3
-plain : ℕ → Taps
+unfoldable pub plain : ℕ → Taps
 plain used = taps (0x3dcc_cccd ∷ 0x3f00_0000 ∷ 0x3f02_8f5c ∷ 0x3f66_6666 ∷ []) (0x3f80_0000 ∷ 0x3f4c_cccd ∷ 0x3f19_999a ∷ 0x3e99_999a ∷ []) used
 
 -- a NaN and an infinity among the positions, and two NaNs among the heights
-noNumbers : Taps
+unfoldable pub noNumbers : Taps
 noNumbers = taps (0x7fc0_0000 ∷ 0x0000_0000 ∷ 0x7f80_0000 ∷ 0x3f80_0000 ∷ []) (0x3f80_0000 ∷ 0x7fc0_0000 ∷ 0x3f80_0000 ∷ 0x7fc0_0000 ∷ []) 4
 
 -- three taps at one position, of the heights -1, 0.5 and NaN, and one of an infinite height
@@ -47,7 +43,7 @@ together : Taps
 together = taps (0x3e80_0000 ∷ 0x3e80_0000 ∷ 0x3e80_0000 ∷ 0x3f40_0000 ∷ []) (0xbf80_0000 ∷ 0x3f00_0000 ∷ 0x7fc0_0000 ∷ 0x7f80_0000 ∷ []) 4
 
 -- at -0.01, 1.01, 0.5 and 0.3, of the heights 2, 3e38, minus infinity and the least subnormal
-outside : Taps
+unfoldable pub outside : Taps
 outside = taps (0xbc23_d70a ∷ 0x3f81_47ae ∷ 0x3f00_0000 ∷ 0x3e99_999a ∷ []) (0x4000_0000 ∷ 0x7f61_b1e6 ∷ 0xff80_0000 ∷ 0x0000_0001 ∷ []) 4
 
 -- the first of these is within the ranges that the bound asks for
@@ -96,20 +92,6 @@ gives r = eqb (toBits binary32 (tapsHeightOf (r .0) (bits (r .1)) .height)) (r .
 heights-agree : T (allPass gives heightRows)
 unfolding allPass gives heightRows plain noNumbers together outside taps floats toBits ofBits isNan lt eq neg add sub mul div absOf maxOf clampOf positionOf drawnOf tapHeightOf tapsLevelOf tapsHeightOf
 heights-agree = tt
-
--- ---- marks: the bits of their positions, each of the kind Tap, which has the number 6
-marked : Taps × List ℕ → Bool
-marked r = hasMarks (map (λ (n : ℕ). (6, n)) (r .1)) (stored (tapMarks (r .0) (usedOf (r .0))))
-
-markRows : List (Taps × List ℕ)
-markRows =
-    (plain 4, 0x3dcc_cccd ∷ 0x3f00_0000 ∷ 0x3f02_8f5c ∷ 0x3f66_6666 ∷ []) ∷ (plain 2, 0x3dcc_cccd ∷ 0x3f00_0000 ∷ [])
-    ∷ (plain 5, 0x3dcc_cccd ∷ 0x3f00_0000 ∷ 0x3f02_8f5c ∷ 0x3f66_6666 ∷ []) ∷ (plain 0, [])
-    ∷ (noNumbers, 0x7fc0_0000 ∷ 0x0000_0000 ∷ 0x7f80_0000 ∷ 0x3f80_0000 ∷ []) ∷ (outside, 0xbc23_d70a ∷ 0x3f81_47ae ∷ 0x3f00_0000 ∷ 0x3e99_999a ∷ []) ∷ []
-
-marks-agree : T (allPass marked markRows)
-unfolding allPass allMatch marked hasMarks isMark markRows plain noNumbers outside taps floats toBits ofBits lt padded countOf stored tapMarks
-marks-agree = tt
 
 -- ---- the exact height: a tap that reaches, and whose height is a NaN, leaves none; taps at no number add nothing
 none-reaching : tapsHeightℚ noNumbers zero₃₂ .den ≡ 0

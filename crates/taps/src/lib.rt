@@ -1,20 +1,10 @@
 // The impulse train of a delay: a spike at each of its taps.
 ghost use mathlib.Core.Path.{_≡_};
-ghost use mathlib.Core.Bool.{true};
-ghost use Rattle.exact.specs.Binary32.{zero₃₂};
-ghost use Rattle.marks.specs.Marks.{stored};
 ghost use Rattle.taps.specs.Formula.{usedOf, raisedTo, tapRaisedOf, tapsLevelOf};
-ghost use Rattle.taps.specs.Marks.{tapMarks};
 ghost use Rattle.taps.specs.Promises.{TapsAnswered};
 use curve::Height;
 use curve::drawn;
 use curve::position;
-use generator::Scale;
-use lists::at_most;
-use marks::MarkKind;
-use marks::Marks;
-use marks::no_marks;
-use marks::push;
 use math::abs;
 
 // The most taps that a delay has.
@@ -82,39 +72,4 @@ pub fn taps_height(taps: Taps, t: f32) -> Height
     ensures { λ r. ⌜ TapsAnswered taps t r ⌝ }
 {
     drawn(taps_level(taps, position(t)))
-}
-
-// A mark at each tap, wherever it falls.
-pub fn taps_marks(taps: Taps) -> Marks
-    ensures { λ r. ⌜ r ≡ stored (tapMarks taps (usedOf taps)) ⌝ }
-{
-    let count = at_most(taps.used, MAX_TAPS);
-    let mut marks = no_marks();
-    let mut i: usize = 0;
-    while i < count {
-        marks = push(marks, taps.at[i], MarkKind::Tap);
-        i += 1;
-    }
-    marks
-}
-
-// The height where there is no tap.
-pub fn taps_rest() -> f32
-    ensures { λ r. ⌜ r ≡ zero₃₂ ⌝ }
-{
-    0.0
-}
-
-// No measure of the horizontal is published.
-pub fn taps_scale() -> Scale
-    ensures { λ r. ⌜ r ≡ Scale.Normalised ⌝ }
-{
-    Scale::Normalised
-}
-
-// The left edge is a moment.
-pub fn taps_anchored() -> bool
-    ensures { λ r. ⌜ r ≡ true ⌝ }
-{
-    true
 }

@@ -4,7 +4,7 @@ use Rattle.marks.specs.declared.Marks.{Marks}
 use Rattle.marks.specs.Marks.{stored}
 use Rattle.taps.specs.declared.Taps.{Taps}
 use Rattle.taps.specs.Formula.{usedOf}
-use Rattle.taps.specs.Marks.{tapMarks}
+use Rattle.tap_marks.specs.Marks.{tapMarks}
 use Rattle.refusals.specs.declared.Answer.the-variants.{Accepted}
 use Rattle.c_taps.specs.Results.{tapsAnswer}
 use Rattle.c_taps.proofs.Same.{same-marks}

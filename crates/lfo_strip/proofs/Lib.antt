@@ -1,0 +1,2 @@
+-- An LFO's height by its slew.
+pub mod Slew

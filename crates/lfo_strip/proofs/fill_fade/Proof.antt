@@ -1,0 +1,38 @@
+-- `fill_fade` fills the strip, and answers that no height takes steps. The loop's invariant: the first i samples are written. Assumes nothing.
+use mathlib.Core.Path.{refl, ap}
+use Prim.Native.Nat.{_-_}
+use borrow.Author.Needs.{needs}
+use Rattle.curve.specs.declared.Height.{Height}
+use Rattle.curve.specs.Curve.{drawnOf}
+use Rattle.fade.specs.Formula.{fadeHeightOf}
+use Rattle.generator.specs.declared.Shape.the-variants.{Fade as AFade}
+use Rattle.generator.specs.Heights.{heightOf}
+use Rattle.strip.proofs.Filling.{Filled, filled-none, filled-next, stepless, filled-whole}
+use Rattle.lfo_strip.proofs.fill_fade.Statement.{statement}
+use Rattle.lfo_strip.proofs.fill_fade.Tie as tie
+
+abbrev Inv-loop : tie.InvT-loop
+Inv-loop f out₀ n last i₀ out i = Filled (AFade f) n i out₀ out
+
+abbrev μ-loop : tie.MeasureT-loop
+μ-loop f out₀ n last i₀ out i = n - i
+
+loop-again : tie.Need-loop-again Inv-loop μ-loop
+unfolding heightOf
+loop-again c =
+    let l = c .before .before .before in
+    let s = AFade (l .before .before .before .args .f) in
+    let height = ap (λ (h : Height). h .height) (c .fade-height .ensures) in
+    filled-next s _ _ _ (l .loop .inv) (search needs) _ (l .before .last-of .ensures) (c .before .sample-position .ensures) height
+
+returns : tie.Need-returns Inv-loop μ-loop
+unfolding heightOf fadeHeightOf drawnOf
+returns c =
+    let s = AFade (c .before .before .before .before .args .f) in
+    filled-whole s _ _ _ (c .before .loop .inv) (c .loop-test .left) (stepless s (λ t. refl) _ _)
+
+pub fill-fade-spec : {M : Type 1} → statement M
+fill-fade-spec =
+    tie.close (tie.spec Inv-loop μ-loop (λ c κs. search needs) (λ c. filled-none _ _ _) (λ c. search needs) (λ c κs. search needs)
+    (λ c κs. search needs) (λ c. search needs) (λ c. search needs) (λ c. search needs) (λ c. search needs) loop-again
+    (λ c. c .before .loop .inv .0) returns)

@@ -1,0 +1,2 @@
+-- The marks of an impulse train.
+pub mod Marks
