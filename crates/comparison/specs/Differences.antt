@@ -5,7 +5,7 @@ use Prim.Native.Nat.{ℕ, zero, suc, _+_}
 use lib.Dec.{eqb}
 use lib.ListN.{length}
 use Rattle.text.specs.Text.{ascii}
-use Rattle.text.specs.Spelled.{decimalOf}
+use Rattle.numerals.specs.Spelled.{decimalOf}
 use Rattle.codes.specs.declared.Code.{Code}
 use Rattle.codes.specs.declared.CodeRead.{CodeRead}
 use Rattle.codes.specs.declared.CodeRead.the-variants.{Known, Above}

@@ -23,11 +23,11 @@ use generator::Generator;
 use generator::of_shape;
 use labels::put_title;
 use math::abs;
+use numerals::put_decimal;
 use program_name::put_name_in_line;
 use rows::put_nine_places;
 use strip::sample_position;
 use text::put;
-use text::put_decimal;
 use undrawn_bytes::count_undrawn;
 use undrawn_bytes::put_undrawn_part;
 

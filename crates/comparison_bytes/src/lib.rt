@@ -6,8 +6,8 @@ ghost use Rattle.comparison_bytes.specs.Changes.{sameBytes, changeText, 
 use codes::Code;
 use codes::bytes_of;
 use labels::put_byte_name;
+use numerals::put_decimal;
 use text::put;
-use text::put_decimal;
 
 // ---- bytes
 // A byte of a block, and 0 past its end.

@@ -14,8 +14,8 @@ use codes::PULSE;
 use codes::RESONANCE;
 use codes::SAW;
 use codes::SOURCE;
-use text::index_of;
-use text::put_word;
+use words::index_of;
+use words::put_word;
 
 // Bytes with a name of their own.
 const OTHERS: [u8; 7] = [

@@ -6,7 +6,7 @@ use lib.Dec.{eqb}
 use lib.ListN.{length}
 use Rattle.codes.specs.Bytes.{byteAt, gatesByte, blockLength}
 use Rattle.text.specs.Text.{ascii}
-use Rattle.text.specs.Escaped.{escapedAll}
+use Rattle.escapes.specs.Escaped.{escapedAll}
 use Rattle.program_name.specs.ProgramName.{nameInXml}
 use Rattle.page_panels.specs.Panels.{panelsText, arpeggioText}
 

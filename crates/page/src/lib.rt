@@ -6,11 +6,11 @@ ghost use Rattle.codes.specs.Bytes.{blockLength};
 ghost use Rattle.page.specs.Page.{styleText, nameText, headText, fileText, footText, pageOf, pageText};
 use block::BLOCK;
 use codes::GATE_TIME;
+use escapes::put_escaped_all;
 use page_panels::put_arpeggio;
 use page_panels::put_panels;
 use program_name::put_name_in_xml;
 use text::put;
-use text::put_escaped_all;
 
 // ---- head and foot
 fn put_style(out: &mut [u8], at: usize) -> usize

@@ -18,7 +18,7 @@ use Rattle.codes.specs.Codes.{codeOf}
 use Rattle.codes.specs.Bytes.{blockLength, byteAt}
 use Rattle.block.specs.Shapes.{shapeOf}
 use Rattle.text.specs.Text.{ascii}
-use Rattle.text.specs.Spelled.{decimalOf}
+use Rattle.numerals.specs.Spelled.{decimalOf}
 use Rattle.dials.specs.Dials.{dialsOf}
 use Rattle.dial_lines.specs.Lines.{onlyDial}
 use Rattle.panel.specs.Labels.{subtitleText}

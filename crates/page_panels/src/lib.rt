@@ -15,11 +15,11 @@ use codes::Code;
 use codes::CodeRead;
 use codes::code_from;
 use generator::of_shape;
+use numerals::put_decimal;
 use panel::SAMPLES;
 use panel::put_frame;
 use panel::put_title;
 use text::put;
-use text::put_decimal;
 
 fn put_place(out: &mut [u8], at: usize, k: u8) -> usize
     requires { ⌜ k < 15 ⌝ }

@@ -8,7 +8,7 @@ use borrow.Author.Tests.{ne-eqb}
 use lib.Dec.{ltb}
 use lib.ListN.{length, take}
 use lib.Seq.{length-take-le}
-use Rattle.text.specs.Words.{indexOf}
+use Rattle.words.specs.Words.{indexOf}
 use Rattle.codes.specs.Codes.{codeOf}
 use Rattle.codes.specs.Bytes.{gatesByte}
 use Rattle.undrawn_bytes.specs.Undrawn.{readBy, drawnBy, drawn}

@@ -5,8 +5,8 @@ use Prim.Native.Nat.{ℕ, zero, suc, _+_}
 use lib.Dec.{eqb, ltb}
 use lib.ListN.{length}
 use Rattle.text.specs.Text.{ascii}
-use Rattle.text.specs.Spelled.{decimalOf}
-use Rattle.text.specs.Words.{indexOf}
+use Rattle.numerals.specs.Spelled.{decimalOf}
+use Rattle.words.specs.Words.{indexOf}
 use Rattle.codes.specs.declared.CodeRead.{CodeRead}
 use Rattle.codes.specs.declared.CodeRead.the-variants.{Known, Above}
 use Rattle.codes.specs.Codes.{codeOf}

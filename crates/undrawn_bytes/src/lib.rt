@@ -11,10 +11,10 @@ use codes::CodeRead;
 use codes::GATE_TIME;
 use codes::bytes_of;
 use codes::code_from;
+use numerals::put_decimal;
 use parameter_names::put_parameter_name;
-use text::index_of;
 use text::put;
-use text::put_decimal;
+use words::index_of;
 
 // How many bytes a block has.
 const BYTES: u8 = 242;
