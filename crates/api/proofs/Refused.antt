@@ -9,7 +9,7 @@ use Rattle.captions.specs.declared.Captioned.the-variants.{Written, WrongLength
 use Rattle.captions.specs.Captions.{answerOf as captioned}
 use Rattle.strip.specs.Strip.{lengthFits}
 use Rattle.refusals.specs.Refusals.{accepted, checkBlock, checkCode, checkLength}
-use Rattle.codes.specs.Bytes.{blockLength}
+use Rattle.code_bytes.specs.Bytes.{blockLength}
 use Rattle.block.specs.declared.Chosen.{Chosen}
 use Rattle.block.specs.declared.Chosen.the-variants.{Generator as AGenerator, Refused}
 use Rattle.block.specs.Refusals.{chosenOf}

@@ -16,7 +16,7 @@ use Rattle.refusals.specs.declared.Refusal.the-variants.{Block, Strip}
 use Rattle.refusals.specs.Refusals.{accepted, refusalNumber}
 use Rattle.block.specs.declared.Chosen.{Chosen}
 use Rattle.block.specs.declared.Chosen.the-variants.{Generator as AGenerator, Refused}
-use Rattle.codes.specs.Bytes.{byteAt, gatesByte, blockLength}
+use Rattle.code_bytes.specs.Bytes.{byteAt, gatesByte, blockLength}
 use Rattle.api.specs.declared.Answer.{Answer}
 use Rattle.api.specs.declared.Answer.the-variants.{Accepted, Refused as IsRefused}
 use Rattle.api.specs.declared.SettingsAnswer.{SettingsAnswer}

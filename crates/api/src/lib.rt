@@ -10,7 +10,7 @@ use block::HeightAnswer;
 use block::choose;
 use block_strip::StripAnswer;
 use captions::Captioned;
-use codes::GATE_TIME;
+use code_bytes::GATE_TIME;
 use curve::Height;
 use gates::Gates;
 use gates::arpeggiator_gates;

@@ -9,7 +9,7 @@ use Rattle.codes.specs.declared.Code.the-variants.{Envelope, Lfo, LfoUnipolar, 
 use Rattle.codes.specs.declared.OscillatorId.the-variants.{One, Two}
 use Rattle.codes.specs.declared.CodeRead.the-variants.{Known}
 use Rattle.codes.specs.Codes.{codeOf}
-use Rattle.codes.specs.Bytes.{Agree, bytesOf, byteAt, blockLength}
+use Rattle.code_bytes.specs.Bytes.{Agree, bytesOf, byteAt, blockLength}
 use Rattle.block.specs.Shapes.{envelopeAt, lfoAt, oscillatorAt, shapeOf}
 use Rattle.block.specs.Refusals.{settledBy, settledOf, chosenBy, chosenOf}
 

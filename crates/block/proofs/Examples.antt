@@ -28,7 +28,7 @@ use Rattle.codes.specs.declared.OscillatorId.the-variants.{One, Two}
 use Rattle.codes.specs.declared.CodeRead.{CodeRead}
 use Rattle.codes.specs.declared.CodeRead.the-variants.{Known, Above}
 use Rattle.codes.specs.Codes.{codes, codeIn, codeOf}
-use Rattle.codes.specs.Bytes.{bytesOf, blockLength}
+use Rattle.code_bytes.specs.Bytes.{bytesOf, blockLength}
 use Rattle.block.specs.Shapes.{envelopeAt, lfoAt, oscillatorAt, shapeOf}
 use Rattle.block.specs.Refusals.{settledBy, settledOf, chosenBy, chosenOf}
 use Rattle.block.proofs.Refused.{refusalOr}

@@ -19,7 +19,7 @@ use Rattle.codes.specs.declared.CodeRead.the-variants.{Known}
 use Rattle.block.specs.declared.HeightAnswer.{HeightAnswer}
 use Rattle.block.specs.declared.HeightAnswer.the-variants.{Height as AHeight}
 use Rattle.codes.specs.Codes.{codeOf}
-use Rattle.codes.specs.Bytes.{lfoFirst, slewPlace, byteAt, blockLength}
+use Rattle.code_bytes.specs.Bytes.{lfoFirst, slewPlace, byteAt, blockLength}
 use Rattle.block.specs.Shapes.{shapeOf}
 use Rattle.block.specs.Refusals.{chosenOf, heightAnswer, heightRefusal}
 

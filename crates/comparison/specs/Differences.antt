@@ -10,7 +10,7 @@ use Rattle.codes.specs.declared.Code.{Code}
 use Rattle.codes.specs.declared.CodeRead.{CodeRead}
 use Rattle.codes.specs.declared.CodeRead.the-variants.{Known, Above}
 use Rattle.codes.specs.Codes.{codeNumber, codeOf}
-use Rattle.codes.specs.Bytes.{bytesOf, byteAt, gatesByte, blockLength}
+use Rattle.code_bytes.specs.Bytes.{bytesOf, byteAt, gatesByte, blockLength}
 use Rattle.block.specs.Shapes.{shapeOf}
 use Rattle.rows.specs.Rows.{ninePlaces}
 use Rattle.labels.specs.Names.{titleOf}

@@ -15,7 +15,7 @@ use Rattle.codes.specs.declared.Code.{Code}
 use Rattle.codes.specs.declared.CodeRead.{CodeRead}
 use Rattle.codes.specs.declared.CodeRead.the-variants.{Known, Above}
 use Rattle.codes.specs.Codes.{codeOf}
-use Rattle.codes.specs.Bytes.{blockLength, byteAt}
+use Rattle.code_bytes.specs.Bytes.{blockLength, byteAt}
 use Rattle.block.specs.Shapes.{shapeOf}
 use Rattle.text.specs.Text.{ascii}
 use Rattle.numerals.specs.Spelled.{decimalOf}

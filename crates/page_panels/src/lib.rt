@@ -4,7 +4,7 @@ ghost use Prim.Native.Nat.{_<_};
 ghost use lib.Dec.{eqb};
 ghost use lib.ListN.{length};
 ghost use Rattle.text.specs.Text.{Puts};
-ghost use Rattle.codes.specs.Bytes.{blockLength, byteAt};
+ghost use Rattle.code_bytes.specs.Bytes.{blockLength, byteAt};
 ghost use Rattle.block.specs.Shapes.{shapeOf};
 ghost use Rattle.page_panels.specs.Panels.{placeText, panelEnd, drawnText, olderText, codePanel, panelText, panelsText, arpeggioText};
 use block::BLOCK;

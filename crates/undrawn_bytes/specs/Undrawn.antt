@@ -10,7 +10,7 @@ use Rattle.words.specs.Words.{indexOf}
 use Rattle.codes.specs.declared.CodeRead.{CodeRead}
 use Rattle.codes.specs.declared.CodeRead.the-variants.{Known, Above}
 use Rattle.codes.specs.Codes.{codeOf}
-use Rattle.codes.specs.Bytes.{bytesOf, gatesByte, blockLength}
+use Rattle.code_bytes.specs.Bytes.{bytesOf, gatesByte, blockLength}
 use Rattle.parameter_names.specs.ParameterNames.{parameterName}
 
 -- ---- which bytes are drawn

@@ -1,8 +1,8 @@
 -- `oscillator_bytes` has the bytes of `bytesOf`. Assumes nothing.
-use Rattle.codes.specs.Bytes.{bytesOf}
+use Rattle.code_bytes.specs.Bytes.{bytesOf}
 use borrow.Author.Needs.{needs}
-use Rattle.codes.proofs.oscillator_bytes.Statement.{statement}
-use Rattle.codes.proofs.oscillator_bytes.Tie as tie
+use Rattle.code_bytes.proofs.oscillator_bytes.Statement.{statement}
+use Rattle.code_bytes.proofs.oscillator_bytes.Tie as tie
 
 pub oscillator-bytes-spec : {M : Type 1} → statement M
 unfolding bytesOf

@@ -1,8 +1,8 @@
 -- `bytes_of` has the bytes of `bytesOf`, an arm for each kind of code. Assumes nothing.
-use Rattle.codes.specs.Bytes.{bytesOf}
+use Rattle.code_bytes.specs.Bytes.{bytesOf}
 use borrow.Author.Needs.{needs}
-use Rattle.codes.proofs.bytes_of.Statement.{statement}
-use Rattle.codes.proofs.bytes_of.Tie as tie
+use Rattle.code_bytes.proofs.bytes_of.Statement.{statement}
+use Rattle.code_bytes.proofs.bytes_of.Tie as tie
 
 returns : tie.Need-returns
 unfolding bytesOf
