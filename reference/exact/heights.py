@@ -6,7 +6,7 @@
     heights.py SEED     a list whose random part is drawn otherwise; the kept one's seed is 0
 
 A line is five hexadecimal numbers, CODE BYTES POSITION LOW HIGH: the generator's code; the bytes that it reads, as one
-number, in the order of `bytesOf` (crates/codes/specs/Bytes.antt); the position's bits; and the height's bounds in units
+number, in the order of `bytesOf` (crates/code_bytes/specs/Bytes.antt); the position's bits; and the height's bounds in units
 of 2^-32. With X the exact height and q the bound of its code, LOW is (X - q) 2^32 rounded down and HIGH is
 (X + q) 2^32 rounded up, both clamped to 0..2^32. A line that starts with # is a comment.
 """

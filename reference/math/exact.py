@@ -1,5 +1,5 @@
 #!/usr/bin/env python3
-"""Prints the rows of crates/math/proofs/ExamplesExact.antt, from mpmath at 60 digits and Python's own fractions.
+"""Prints the rows of crates/NAME/proofs/ExamplesExact.antt, of sine, exp2, log2 and floor, from mpmath at 60 digits and Python's own fractions.
 
 A row of a series is the point, the function itself there (sin, 2^s, log2) and the series as docs/SPECIFICATION.md
 gives it, summed term by term; both numbers are rounded to 40 decimals. A floor and an exponent are exact.

@@ -6,7 +6,7 @@ use lib.ListN.{length}
 use Rattle.codes.specs.declared.Code.{Code}
 use Rattle.codes.specs.declared.CodeRead.the-variants.{Known}
 use Rattle.codes.specs.Codes.{codeOf}
-use Rattle.codes.specs.Bytes.{Agree, bytesOf, byteAt, gatesByte, blockLength}
+use Rattle.code_bytes.specs.Bytes.{Agree, bytesOf, byteAt, gatesByte, blockLength}
 use Rattle.block.specs.Refusals.{chosenOf}
 use Rattle.block.proofs.Agreement.{agreement-chosen}
 use Rattle.block_gates.specs.Answers.{gatesAnswer, barsAnswer}

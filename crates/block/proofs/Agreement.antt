@@ -7,7 +7,7 @@ use lib.ListN.{length}
 use Rattle.codes.specs.declared.Code.{Code}
 use Rattle.codes.specs.declared.CodeRead.the-variants.{Known}
 use Rattle.codes.specs.Codes.{codeOf}
-use Rattle.codes.specs.Bytes.{Agree, bytesOf, byteAt, blockLength}
+use Rattle.code_bytes.specs.Bytes.{Agree, bytesOf, byteAt, blockLength}
 use Rattle.code_shapes.proofs.Agreement.{agreement}
 use Rattle.block.specs.Refusals.{settledBy, settledOf, chosenBy, chosenOf}
 

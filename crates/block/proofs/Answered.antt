@@ -13,7 +13,7 @@ use Rattle.block.specs.declared.Chosen.{Chosen}
 use Rattle.block.specs.declared.HeightAnswer.{HeightAnswer}
 use Rattle.block.specs.declared.HeightAnswer.the-variants.{Height as AHeight}
 use Rattle.codes.specs.Codes.{codeOf}
-use Rattle.codes.specs.Bytes.{byteAt, blockLength}
+use Rattle.code_bytes.specs.Bytes.{byteAt, blockLength}
 use Rattle.block.specs.Refusals.{chosenOf, heightAnswer, heightRefusal}
 use Rattle.block.specs.Promises.{HeightAnswered}
 use Rattle.block.proofs.KnownCode.{known-chosen}

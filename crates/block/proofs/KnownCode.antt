@@ -12,7 +12,7 @@ use Rattle.refusals.specs.Refusals.{accepted, checkBlock, checkCode}
 use Rattle.codes.specs.declared.Code.{Code}
 use Rattle.codes.specs.declared.CodeRead.the-variants.{Known}
 use Rattle.codes.specs.Codes.{codeOf}
-use Rattle.codes.specs.Bytes.{blockLength, byteAt}
+use Rattle.code_bytes.specs.Bytes.{blockLength, byteAt}
 use Rattle.block.specs.declared.Settled.the-variants.{Known as KnownCode}
 use Rattle.block.specs.declared.Chosen.the-variants.{Generator as AGenerator}
 use Rattle.code_shapes.specs.Shapes.{shapeOf}

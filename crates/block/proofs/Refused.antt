@@ -10,7 +10,7 @@ use Rattle.refusals.specs.declared.Refusal.the-variants.{Block}
 use Rattle.refusals.specs.Refusals.{accepted, refusalNumber, checkBlock, checkCode}
 use Rattle.codes.specs.declared.Code.{Code}
 use Rattle.codes.specs.Codes.{codes, codeIn, codeOf}
-use Rattle.codes.specs.Bytes.{byteAt, blockLength}
+use Rattle.code_bytes.specs.Bytes.{byteAt, blockLength}
 use Rattle.block.specs.declared.Settled.{Settled}
 use Rattle.block.specs.declared.Settled.the-variants.{Known as KnownCode, Refused as NoCode}
 use Rattle.block.specs.declared.Chosen.{Chosen}

@@ -12,7 +12,7 @@ use Rattle.code_heights.specs.Promises.{CodePromised}
 use Rattle.block.specs.declared.HeightAnswer.{HeightAnswer}
 use Rattle.block.specs.declared.HeightAnswer.the-variants.{Height as AHeight}
 use Rattle.codes.specs.Codes.{codeOf}
-use Rattle.codes.specs.Bytes.{byteAt, blockLength}
+use Rattle.code_bytes.specs.Bytes.{byteAt, blockLength}
 use Rattle.block.specs.Refusals.{chosenOf, heightAnswer, heightRefusal}
 
 -- The answer is a height, and of it all is promised that belongs to the code and the block's bytes.

@@ -19,7 +19,7 @@ use Rattle.block.specs.declared.Chosen.the-variants.{Generator as AGener
 use Rattle.block.specs.declared.HeightAnswer.{HeightAnswer}
 use Rattle.block.specs.declared.HeightAnswer.the-variants.{Height as AHeight, Refused as NoHeight}
 use Rattle.codes.specs.Codes.{codeOf}
-use Rattle.codes.specs.Bytes.{byteAt, blockLength}
+use Rattle.code_bytes.specs.Bytes.{byteAt, blockLength}
 use Rattle.code_shapes.specs.Shapes.{shapeOf}
 
 -- What a block and a code's number come to. The block's length is tested first, then the code.

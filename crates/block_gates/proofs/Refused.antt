@@ -6,7 +6,7 @@ use Prim.Native.Nat.{ℕ}
 use lib.Dec.{eqb}
 use lib.ListN.{length}
 use Rattle.refusals.specs.Refusals.{accepted, checkBlock, answerRefusal}
-use Rattle.codes.specs.Bytes.{blockLength}
+use Rattle.code_bytes.specs.Bytes.{blockLength}
 use Rattle.block_gates.specs.declared.GatesAnswer.{GatesAnswer}
 use Rattle.block_gates.specs.Answers.{gatesAnswer, barsAnswer}
 use Rattle.block_gates.specs.Promises.{GatesAnswered}

@@ -8,7 +8,7 @@ use Rattle.gates.specs.Gates.{gatesOf}
 use Rattle.bars.specs.Bars.{barsOf}
 use Rattle.refusals.specs.declared.Refusal.the-variants.{Block}
 use Rattle.refusals.specs.declared.Answer.the-variants.{Accepted, Refused as IsRefused}
-use Rattle.codes.specs.Bytes.{byteAt, gatesByte, blockLength}
+use Rattle.code_bytes.specs.Bytes.{byteAt, gatesByte, blockLength}
 use Rattle.block_gates.specs.declared.GatesAnswer.{GatesAnswer}
 
 -- The gates meet the first refusal only; beside it there are none, as of a byte of 0.

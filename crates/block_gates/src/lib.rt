@@ -2,7 +2,7 @@
 ghost use Rattle.block_gates.specs.Answers.{gatesAnswer, barsAnswer};
 ghost use Rattle.block_gates.specs.Promises.{GatesAnswered};
 use block::BLOCK;
-use codes::GATE_TIME;
+use code_bytes::GATE_TIME;
 use gates::Gates;
 use gates::arpeggiator_gates;
 use refusals::Answer;

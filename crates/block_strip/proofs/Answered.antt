@@ -18,7 +18,7 @@ use Rattle.codes.specs.declared.CodeRead.the-variants.{Known}
 use Rattle.block.specs.declared.Chosen.{Chosen}
 use Rattle.block.specs.declared.Chosen.the-variants.{Generator as AGenerator, Refused}
 use Rattle.codes.specs.Codes.{codeOf}
-use Rattle.codes.specs.Bytes.{byteAt, blockLength}
+use Rattle.code_bytes.specs.Bytes.{byteAt, blockLength}
 use Rattle.code_shapes.specs.Shapes.{shapeOf}
 use Rattle.block.specs.Refusals.{chosenOf}
 use Rattle.block.proofs.KnownCode.{known-chosen}

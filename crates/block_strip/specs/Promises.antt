@@ -11,7 +11,7 @@ use Rattle.refusals.specs.Refusals.{accepted, checkBlock, checkCode, checkLengt
 use Rattle.codes.specs.declared.Code.{Code}
 use Rattle.codes.specs.declared.CodeRead.the-variants.{Known}
 use Rattle.codes.specs.Codes.{codeOf}
-use Rattle.codes.specs.Bytes.{byteAt, blockLength}
+use Rattle.code_bytes.specs.Bytes.{byteAt, blockLength}
 use Rattle.block.specs.Refusals.{chosenOf}
 use Rattle.code_heights.specs.Promises.{CodePromised}
 use Rattle.block_strip.specs.declared.StripAnswer.{StripAnswer}

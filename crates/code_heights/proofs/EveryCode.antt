@@ -18,7 +18,7 @@ use Rattle.code_heights.proofs.EveryBlock.{envelope-shape-range, lfo-sh
 use Rattle.codes.specs.declared.Code.{Code}
 use Rattle.codes.specs.declared.Code.the-variants.{Envelope, Lfo, LfoUnipolar, Fade, LowPass, HighPass, Oscillator, Noise}
 use Rattle.codes.specs.declared.OscillatorId.the-variants.{One, Two}
-use Rattle.codes.specs.Bytes.{shapePlace, keySyncPlace, slewPlace, fadeByte, lfoFirst, envelopeFirst}
+use Rattle.code_bytes.specs.Bytes.{shapePlace, keySyncPlace, slewPlace, fadeByte, lfoFirst, envelopeFirst}
 use Rattle.generator.specs.declared.Shape.the-variants.{Envelope as AnEnvelope}
 use Rattle.code_shapes.specs.Shapes.{envelopeAt, lfoAt, oscillatorAt, shapeOf}
 use Rattle.code_heights.specs.Promises.{slewedCode, lfoBound, boundOf, CodePromised}

@@ -7,8 +7,10 @@ use lib.Dec.{T, eqb}
 use lib.Ieee.{Float, binary32, ofBits, toBits, ofInt, toUnsigned, isNan, lt, le, neg, add, sub, mul, div}
 use Rattle.exact.specs.Value.{value}
 use Rattle.exact.specs.Binary32.{zero₃₂, quarter₃₂, half₃₂, one₃₂}
-use Rattle.math.specs.Horner.{horner}
-use Rattle.math.specs.Formulas.{clampOf, floorOf, fractOf, exp2Scale, exp2Coefficients, exp2Within, exp2Of}
+use Rattle.series.specs.Horner.{horner}
+use Rattle.math.specs.Formulas.{clampOf}
+use Rattle.floor.specs.Formula.{floorOf, fractOf}
+use Rattle.exp2.specs.Formula.{exp2Scale, exp2Coefficients, exp2Within, exp2Of}
 use Rattle.lists.proofs.Rows.{allPass}
 use Rattle.curve.specs.declared.Height.{Height}
 use Rattle.curve.specs.Curve.{positionOf, drawnOf}

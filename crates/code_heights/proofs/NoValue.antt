@@ -9,9 +9,14 @@ use Rattle.exact.specs.Fraction.{Fraction, ratio, given, ifBelow, atFloor, neg�
 use Rattle.exact.specs.Value.{value}
 use Rattle.exact.specs.Binary32.{zero₃₂, half₃₂, one₃₂}
 use Rattle.lists.proofs.Rows.{allPass}
-use Rattle.math.specs.Formulas.{minOf, clampOf, floorOf, fractOf, sineCoefficients, halfOf, quarterOf, signOf, sineOfAngle, sineOfQuarter, sineOfCycle, sinTurnsOf}
-use Rattle.math.specs.Horner.{horner, hornerℚ}
-use Rattle.math.specs.Series.{terms, factorial, halfℚ, quarterℚ, signℚ, sineTerm, sineTerms, sineOfAngleℚ, sineOfQuarterℚ, sineOfCycleℚ, sinTurnsℚ, exp2Term, exp2Terms, exp2ℚ, log2ℚ, log2Over}
+use Rattle.math.specs.Formulas.{minOf, clampOf}
+use Rattle.floor.specs.Formula.{floorOf, fractOf}
+use Rattle.sine.specs.Formula.{sineCoefficients, halfOf, quarterOf, signOf, sineOfAngle, sineOfQuarter, sineOfCycle, sinTurnsOf}
+use Rattle.series.specs.Horner.{horner, hornerℚ}
+use Rattle.series.specs.Terms.{terms, factorial}
+use Rattle.sine.specs.Exact.{halfℚ, quarterℚ, signℚ, sineTerm, sineTerms, sineOfAngleℚ, sineOfQuarterℚ, sineOfCycleℚ, sinTurnsℚ}
+use Rattle.exp2.specs.Exact.{exp2Term, exp2Terms, exp2ℚ}
+use Rattle.log2.specs.Exact.{log2ℚ, log2Over}
 use Rattle.curve.specs.Curve.{positionOf}
 use Rattle.settings.specs.declared.LfoShape.{LfoShape}
 use Rattle.settings.specs.declared.LfoShape.the-variants.{Sine, Triangle, Square, RampUp, RampDown, SampleAndHold, SampleAndGlide}

@@ -12,7 +12,7 @@ use Rattle.lfo.specs.Steps.{Steps}
 use Rattle.generator.specs.Heights.{heightℚ, walkPhase}
 use Rattle.codes.specs.declared.Code.{Code}
 use Rattle.codes.specs.declared.Code.the-variants.{Envelope, Lfo, LfoUnipolar, Fade, LowPass, HighPass, Oscillator, Noise}
-use Rattle.codes.specs.Bytes.{lfoFirst, slewPlace}
+use Rattle.code_bytes.specs.Bytes.{lfoFirst, slewPlace}
 use Rattle.code_shapes.specs.Shapes.{shapeOf}
 
 -- Whether a code's height is walked: an LFO's, where its slew byte is not 0.

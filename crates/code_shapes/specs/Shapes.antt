@@ -11,8 +11,8 @@ use Rattle.codes.specs.declared.OscillatorId.{OscillatorId}
 use Rattle.codes.specs.declared.OscillatorId.the-variants.{One, Two}
 use Rattle.codes.specs.declared.Code.{Code}
 use Rattle.codes.specs.declared.Code.the-variants.{Envelope as TheEnvelope, Lfo as TheLfo, LfoUnipolar, Fade, LowPass, HighPass, Oscillator as TheOscillator, Noise}
-use Rattle.codes.specs.Bytes.{sourceByte, pulseByte, sawByte, depthByte, oscillatorTwoByte, noiseByte, resonanceByte, poleByte, envelopeFirst, lfoFirst, fadeByte}
-use Rattle.codes.specs.Bytes.{shapePlace, keySyncPlace, slewPlace, decayPlace, sustainPlace, releasePlace, attackCurvePlace, decayCurvePlace, sustainCurvePlace, releaseCurvePlace}
+use Rattle.code_bytes.specs.Bytes.{sourceByte, pulseByte, sawByte, depthByte, oscillatorTwoByte, noiseByte, resonanceByte, poleByte, envelopeFirst, lfoFirst, fadeByte}
+use Rattle.code_bytes.specs.Bytes.{shapePlace, keySyncPlace, slewPlace, decayPlace, sustainPlace, releasePlace, attackCurvePlace, decayCurvePlace, sustainCurvePlace, releaseCurvePlace}
 
 -- The envelope of the bytes from n on: four times and levels, then their four curves.
 unfoldable pub envelopeAt : (ℕ → ℕ) → ℕ → Envelope

@@ -1,3 +1,2 @@
--- The codes, and the bytes that each reads.
+-- The codes.
 pub mod Codes
-pub mod Bytes

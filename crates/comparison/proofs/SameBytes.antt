@@ -7,7 +7,7 @@ use native.Mathlib.Omega.{arith}
 use borrow.Author.Tests.{eqb-true, eq-eqb}
 use lib.Dec.{eqb}
 use Rattle.codes.specs.declared.Code.{Code}
-use Rattle.codes.specs.Bytes.{Agree, bytesOf}
+use Rattle.code_bytes.specs.Bytes.{Agree, bytesOf}
 use Rattle.code_shapes.specs.Shapes.{shapeOf}
 use Rattle.code_shapes.proofs.Agreement.{agreement}
 use Rattle.comparison_bytes.specs.Changes.{sameBytes, changeText, changesText}

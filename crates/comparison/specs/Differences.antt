@@ -5,12 +5,12 @@ use Prim.Native.Nat.{ℕ, zero, suc, _+_}
 use lib.Dec.{eqb}
 use lib.ListN.{length}
 use Rattle.text.specs.Text.{ascii}
-use Rattle.text.specs.Spelled.{decimalOf}
+use Rattle.numerals.specs.Spelled.{decimalOf}
 use Rattle.codes.specs.declared.Code.{Code}
 use Rattle.codes.specs.declared.CodeRead.{CodeRead}
 use Rattle.codes.specs.declared.CodeRead.the-variants.{Known, Above}
 use Rattle.codes.specs.Codes.{codeNumber, codeOf}
-use Rattle.codes.specs.Bytes.{bytesOf, byteAt, gatesByte, blockLength}
+use Rattle.code_bytes.specs.Bytes.{bytesOf, byteAt, gatesByte, blockLength}
 use Rattle.code_shapes.specs.Shapes.{shapeOf}
 use Rattle.rows.specs.Rows.{ninePlaces}
 use Rattle.labels.specs.Names.{titleOf}

@@ -3,8 +3,8 @@ use mathlib.Core.Path.{_≡_, refl}
 use mathlib.Core.List.{[], _∷_}
 use Prim.Native.Nat.{ℕ, _+_}
 use Rattle.text.specs.Text.{ascii}
-use Rattle.text.specs.Words.{firstWord, pastBar, wordOf, indexOf}
-use Rattle.text.specs.Spelled.{glyphOf, digitsOf, placesFrom, decimalOf}
+use Rattle.words.specs.Words.{firstWord, pastBar, wordOf, indexOf}
+use Rattle.numerals.specs.Spelled.{glyphOf, digitsOf, placesFrom, decimalOf}
 use Rattle.labels.specs.Names.{byteName}
 use Rattle.comparison_bytes.specs.Changes.{changeText, changesText}
 

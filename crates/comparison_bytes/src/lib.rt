@@ -1,13 +1,13 @@
 // The bytes of two blocks held against each other: which of those that a generator reads are the same, and a line for each that is not.
 ghost use mathlib.Core.Path.{_≡_};
 ghost use Rattle.text.specs.Text.{Puts};
-ghost use Rattle.codes.specs.Bytes.{bytesOf, byteAt};
+ghost use Rattle.code_bytes.specs.Bytes.{bytesOf, byteAt};
 ghost use Rattle.comparison_bytes.specs.Changes.{sameBytes, changeText, changesText};
+use code_bytes::bytes_of;
 use codes::Code;
-use codes::bytes_of;
 use labels::put_byte_name;
+use numerals::put_decimal;
 use text::put;
-use text::put_decimal;
 
 // ---- bytes
 // A byte of a block, and 0 past its end.

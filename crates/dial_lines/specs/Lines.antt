@@ -2,7 +2,7 @@
 use mathlib.Core.List.{List, _++_}
 use Prim.Native.Nat.{ℕ}
 use Rattle.text.specs.Text.{ascii}
-use Rattle.text.specs.Spelled.{decimalOf}
+use Rattle.numerals.specs.Spelled.{decimalOf}
 use Rattle.labels.specs.Notes.{shapeNote, polesNote, sourceNote, depthNote}
 
 -- How far below the frame the four lines are, in hundredths of a millimetre.

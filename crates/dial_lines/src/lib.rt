@@ -2,8 +2,8 @@
 ghost use Rattle.text.specs.Text.{Puts};
 ghost use Rattle.labels.specs.Notes.{switchNote};
 ghost use Rattle.dial_lines.specs.Lines.{dialStart, dialEnd, dialText, plainDial, onlyDial, curvedDial, shapeDial, polesDial, sourceDial, depthDial};
+use numerals::put_decimal;
 use text::put;
-use text::put_decimal;
 
 fn start(out: &mut [u8], at: usize, y: u64, name: &[u8], b: u8) -> usize
     ensures { λ r. ⌜ Puts (now (out .entry)) at (dialStart y (now (name .entry)) b) (now (out .exit)) r ⌝ }

@@ -2,8 +2,8 @@
 use mathlib.Core.List.{List, _++_}
 use Prim.Native.Nat.{ℕ, _+_}
 use Rattle.text.specs.Text.{ascii}
-use Rattle.codes.specs.Bytes.{sourceByte, pulseByte, sawByte, depthByte, oscillatorTwoByte, noiseByte, resonanceByte, poleByte, envelopeFirst, lfoFirst, fadeByte}
-use Rattle.codes.specs.Bytes.{shapePlace, keySyncPlace, slewPlace, decayPlace, sustainPlace, releasePlace, attackCurvePlace, decayCurvePlace, sustainCurvePlace, releaseCurvePlace}
+use Rattle.code_bytes.specs.Bytes.{sourceByte, pulseByte, sawByte, depthByte, oscillatorTwoByte, noiseByte, resonanceByte, poleByte, envelopeFirst, lfoFirst, fadeByte}
+use Rattle.code_bytes.specs.Bytes.{shapePlace, keySyncPlace, slewPlace, decayPlace, sustainPlace, releasePlace, attackCurvePlace, decayCurvePlace, sustainCurvePlace, releaseCurvePlace}
 use Rattle.codes.specs.declared.Code.{Code}
 use Rattle.codes.specs.declared.Code.the-variants.{Envelope, Lfo, LfoUnipolar, Fade, LowPass, HighPass, Oscillator, Noise}
 use Rattle.codes.specs.declared.OscillatorId.the-variants.{One, Two}

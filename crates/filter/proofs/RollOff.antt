@@ -29,13 +29,18 @@ use Rattle.exact.proofs.Analyser.{Bound, Expr, var, constant, plus, Approximate
 use Rattle.exact.proofs.Soundness.{plainly}
 use Rattle.exact.proofs.Inputs.{one, one-input, covers, concludes, concluded, result}
 use Rattle.lists.proofs.Every.{every}
-use Rattle.math.specs.Horner.{horner, hornerℚ}
-use Rattle.math.specs.Formulas.{clampOf, floorOf, fractOf, exp2Scale, exp2Coefficients, exp2Within, exp2Of, log2Coefficients, log2Series, log2Mantissa, log2Bits, log2Of}
-use Rattle.math.specs.Series.{terms, exp2ℚ, log2ℚ, log2Over, log2At, log2Mantissaℚ, log2Seriesℚ, log2Terms, log2Term, exponentOf}
-use Rattle.math.proofs.Exp2Error.{powerBound, NearPower, exp2-approximates}
-use Rattle.math.proofs.ExactExp2.{exp2-near}
-use Rattle.math.proofs.ExactLog2.{log2-near}
-use Rattle.math.proofs.Log2Error.{logBound, log2-approximates}
+use Rattle.series.specs.Horner.{horner, hornerℚ}
+use Rattle.math.specs.Formulas.{clampOf}
+use Rattle.floor.specs.Formula.{floorOf, fractOf}
+use Rattle.exp2.specs.Formula.{exp2Scale, exp2Coefficients, exp2Within, exp2Of}
+use Rattle.log2.specs.Formula.{log2Coefficients, log2Series, log2Mantissa, log2Bits, log2Of}
+use Rattle.series.specs.Terms.{terms}
+use Rattle.exp2.specs.Exact.{exp2ℚ}
+use Rattle.log2.specs.Exact.{log2ℚ, log2Over, log2At, log2Mantissaℚ, log2Seriesℚ, log2Terms, log2Term, exponentOf}
+use Rattle.exp2.proofs.Exp2Error.{powerBound, NearPower, exp2-approximates}
+use Rattle.exp2.proofs.ExactExp2.{exp2-near}
+use Rattle.log2.proofs.ExactLog2.{log2-near}
+use Rattle.log2.proofs.Log2Error.{logBound, log2-approximates}
 use Rattle.filter.specs.Formula.{thirty₃₂, logOf}
 use Rattle.filter.specs.Exact.{logℚ}
 use Rattle.filter.proofs.Exchange.{exchange, quanta, lower-fraction, upper-fraction, exact-nonnegative}

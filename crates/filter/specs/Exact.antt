@@ -3,7 +3,8 @@ use lib.IntN.{negsuc}
 use lib.Ieee.{Float}
 use Rattle.exact.specs.Fraction.{Fraction, ratio, whole, negℚ, clampUnitℚ, _+ℚ_, _-ℚ_, _*ℚ_, _/ℚ_}
 use Rattle.exact.specs.Value.{value}
-use Rattle.math.specs.Series.{exp2ℚ, log2ℚ}
+use Rattle.exp2.specs.Exact.{exp2ℚ}
+use Rattle.log2.specs.Exact.{log2ℚ}
 use Rattle.curve.specs.Curve.{positionOf}
 use Rattle.settings.specs.declared.Pass.{Pass}
 use Rattle.settings.specs.declared.Pass.the-variants.{Low, High}

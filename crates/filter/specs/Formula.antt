@@ -2,7 +2,8 @@
 use mathlib.Core.Bool.{cond}
 use lib.Ieee.{Float, neg, lt}
 use Rattle.exact.specs.Binary32.{_⊕_, _⊖_, _⊗_, _⊘_, bits, half₃₂, one₃₂}
-use Rattle.math.specs.Formulas.{exp2Of, log2Of}
+use Rattle.exp2.specs.Formula.{exp2Of}
+use Rattle.log2.specs.Formula.{log2Of}
 use Rattle.curve.specs.declared.Height.{Height}
 use Rattle.curve.specs.Curve.{clampUnitOf, positionOf, drawnOf}
 use Rattle.settings.specs.declared.Pass.{Pass}

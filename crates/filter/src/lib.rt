@@ -5,8 +5,8 @@ use curve::Height;
 use curve::clamp_unit;
 use curve::drawn;
 use curve::position;
-use math::exp2;
-use math::log2;
+use exp2::exp2;
+use log2::log2;
 use settings::Filter;
 use settings::Pass;
 

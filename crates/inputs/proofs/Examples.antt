@@ -3,7 +3,7 @@ use mathlib.Core.Path.{_≡_, refl}
 use mathlib.Core.List.{[], _∷_}
 use lib.ListN.{length, take, drop}
 use Rattle.codes.specs.Codes.{codes, codeIn}
-use Rattle.codes.specs.Bytes.{bytesOf}
+use Rattle.code_bytes.specs.Bytes.{bytesOf}
 use Rattle.inputs.specs.Inputs.{withBytes, placesOf, withInput, blockOf, lfoInput}
 
 -- LFO 1: its shape is byte 2, its key sync byte 3, its slew byte 6.

@@ -9,7 +9,7 @@ use Rattle.strip.specs.Strip.{partOf}
 use Rattle.codes.specs.declared.CodeRead.{CodeRead}
 use Rattle.codes.specs.declared.CodeRead.the-variants.{Known, Above}
 use Rattle.codes.specs.Codes.{codeOf}
-use Rattle.codes.specs.Bytes.{bytesOf, blockLength}
+use Rattle.code_bytes.specs.Bytes.{bytesOf, blockLength}
 use Rattle.block.specs.declared.HeightAnswer.{HeightAnswer}
 use Rattle.block.specs.declared.HeightAnswer.the-variants.{Height as AHeight, Refused}
 use Rattle.block.specs.Refusals.{chosenOf, heightAnswer}

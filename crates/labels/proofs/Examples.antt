@@ -3,8 +3,8 @@ use mathlib.Core.Path.{_≡_, refl}
 use mathlib.Core.List.{List, [], _∷_}
 use Prim.Native.Nat.{ℕ}
 use Rattle.text.specs.Text.{ascii}
-use Rattle.text.specs.Words.{firstWord, pastBar, wordOf, indexOf}
-use Rattle.codes.specs.Bytes.{bytesOf}
+use Rattle.words.specs.Words.{firstWord, pastBar, wordOf, indexOf}
+use Rattle.code_bytes.specs.Bytes.{bytesOf}
 use Rattle.codes.specs.declared.EnvelopeId.the-variants.{Vca, Vcf, Mod}
 use Rattle.codes.specs.declared.LfoId.the-variants.{One, Two}
 use Rattle.codes.specs.declared.Code.the-variants.{Envelope, Lfo}

@@ -4,8 +4,8 @@ use mathlib.Core.List.{List, [], _∷_}
 use Prim.Native.Nat.{ℕ, _-_, _%_}
 use lib.Dec.{ltb}
 use Rattle.text.specs.Text.{ascii}
-use Rattle.text.specs.Words.{wordOf, indexOf}
-use Rattle.codes.specs.Bytes.{sourceByte, pulseByte, sawByte, depthByte, resonanceByte, poleByte, gatesByte, lfoSpan, lfosEnd, envelopesFrom, envelopeSpan, envelopesEnd}
+use Rattle.words.specs.Words.{wordOf, indexOf}
+use Rattle.code_bytes.specs.Bytes.{sourceByte, pulseByte, sawByte, depthByte, resonanceByte, poleByte, gatesByte, lfoSpan, lfosEnd, envelopesFrom, envelopeSpan, envelopesEnd}
 
 -- The title of panel k, with spaces up to column 17: of the generator whose code's number it is, and last of the arpeggio.
 abbrev pub titleOf : ℕ → List ℕ

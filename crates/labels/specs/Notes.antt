@@ -2,7 +2,7 @@
 use mathlib.Core.List.{List}
 use Prim.Native.Nat.{ℕ}
 use Rattle.text.specs.Text.{ascii}
-use Rattle.text.specs.Words.{wordOf}
+use Rattle.words.specs.Words.{wordOf}
 
 -- A switch is off at 0 only.
 abbrev pub switchNote : ℕ → List ℕ

@@ -2,20 +2,20 @@
 ghost use Rattle.text.specs.Text.{Puts};
 ghost use Rattle.labels.specs.Names.{titleOf, lfoName, envelopeName, otherName, byteName};
 ghost use Rattle.labels.specs.Notes.{switchNote, shapeNote, polesNote, sourceNote, depthNote};
-use codes::DEPTH;
-use codes::ENVELOPE_SPAN;
-use codes::ENVELOPES;
-use codes::ENVELOPES_END;
-use codes::GATE_TIME;
-use codes::LFO_SPAN;
-use codes::LFOS_END;
-use codes::POLE;
-use codes::PULSE;
-use codes::RESONANCE;
-use codes::SAW;
-use codes::SOURCE;
-use text::index_of;
-use text::put_word;
+use code_bytes::DEPTH;
+use code_bytes::ENVELOPE_SPAN;
+use code_bytes::ENVELOPES;
+use code_bytes::ENVELOPES_END;
+use code_bytes::GATE_TIME;
+use code_bytes::LFO_SPAN;
+use code_bytes::LFOS_END;
+use code_bytes::POLE;
+use code_bytes::PULSE;
+use code_bytes::RESONANCE;
+use code_bytes::SAW;
+use code_bytes::SOURCE;
+use words::index_of;
+use words::put_word;
 
 // Bytes with a name of their own.
 const OTHERS: [u8; 7] = [

@@ -19,7 +19,7 @@ use Rattle.exact.proofs.Defined.{value-defined}
 use Rattle.lists.proofs.Every.{every, each}
 use Rattle.math.proofs.Nan.{finite-number}
 use Rattle.math.specs.Formulas.{minOf}
-use Rattle.math.proofs.Phase.{Phase, from-zero, phase-finite}
+use Rattle.floor.proofs.Phase.{Phase, from-zero, phase-finite}
 use Rattle.lfo_shapes.proofs.DrawnPhase.{Spanned, spanned-phase}
 use Rattle.lfo.specs.Formula.{stepOf, placeOf}
 use Rattle.lfo.proofs.Places.{place-fits, place-finite, place-start, place-phase}

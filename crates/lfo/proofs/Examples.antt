@@ -7,7 +7,8 @@ use lib.Ieee.{binary32, ofBits, toBits, ofInt, neg, add, sub, mul, div, lt, le, 
 use Rattle.exact.specs.Binary32.{bits}
 use Rattle.exact.specs.Value.{value}
 use Rattle.lists.proofs.Rows.{allPass}
-use Rattle.math.specs.Formulas.{minOf, clampOf, floorOf, fractOf}
+use Rattle.math.specs.Formulas.{minOf, clampOf}
+use Rattle.floor.specs.Formula.{floorOf, fractOf}
 use Rattle.curve.specs.Curve.{positionOf, drawnOf}
 use Rattle.settings.specs.Settings.{byteOf, lfoShapeOf, lfoOf}
 use Rattle.lfo_shapes.specs.Formula.{wrapOf, squareOf, samples, sampleOf, indexOf, sampledOf, shapeAtOf}

@@ -22,7 +22,7 @@ use Rattle.exact.proofs.Analyser.{Bound, Expr, var, constant, minus, times, ove
 use Rattle.exact.proofs.Soundness.{plainly}
 use Rattle.exact.proofs.Inputs.{range, input, covers, one, one-input, two, two-inputs, bounded, concludes, concluded}
 use Rattle.exact.proofs.OwnRange.{widened, own-range, approximates-finite}
-use Rattle.math.proofs.Phase.{phase-finite}
+use Rattle.floor.proofs.Phase.{phase-finite}
 use Rattle.lfo.specs.Formula.{limitOf}
 use Rattle.lfo.specs.Exact.{limitℚ}
 use Rattle.lfo.proofs.Advances.{Stepped, six₃₂}

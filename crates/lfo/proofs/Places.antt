@@ -18,7 +18,7 @@ use Rattle.exact.proofs.Parts.{num⁺, num⁻}
 use Rattle.exact.proofs.Defined.{value-defined}
 use Rattle.exact.proofs.Order.{cross, ≤ℚ-refl, parts-equal, lt-at-most, compared, test-passes}
 use Rattle.lists.proofs.Every.{every, each}
-use Rattle.math.proofs.Phase.{Phase, from-zero, walked}
+use Rattle.floor.proofs.Phase.{Phase, from-zero, walked}
 use Rattle.lfo.specs.Formula.{stepOf, placeOf}
 
 pub place-fits : (k : ℕ) → T (fits binary32 (placeOf k))

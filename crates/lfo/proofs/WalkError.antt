@@ -12,7 +12,7 @@ use Rattle.exact.specs.Binary32.{_⊖_, _⊗_, one₃₂}
 use Rattle.exact.proofs.Order.{≤ℚ-trans, parts-≤ℚ, within-loosen}
 use Rattle.exact.proofs.Inputs.{result}
 use Rattle.math.specs.Formulas.{minOf}
-use Rattle.math.proofs.Phase.{Phase}
+use Rattle.floor.proofs.Phase.{Phase}
 use Rattle.settings.specs.declared.LfoShape.{LfoShape}
 use Rattle.settings.specs.declared.LfoShape.the-variants.{Sine, Triangle, Square, RampUp, RampDown, SampleAndHold, SampleAndGlide}
 use Rattle.lfo_shapes.specs.Formula.{shapeAtOf}

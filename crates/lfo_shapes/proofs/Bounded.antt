@@ -25,10 +25,11 @@ use Rattle.exact.proofs.Soundness.{plainly}
 use Rattle.exact.proofs.Inputs.{one, three, one-input, three-inputs, exact-input, covers, relax, concludes, concluded}
 use Rattle.exact.proofs.Fract.{floor-negative}
 use Rattle.curve.proofs.Positions.{level-finite}
-use Rattle.math.specs.Formulas.{clampOf, floorOf, fractOf}
-use Rattle.math.specs.Series.{fractℚ}
-use Rattle.math.proofs.Fold.{Turned}
-use Rattle.math.proofs.Phase.{Phase, phase-finite, fract-turned}
+use Rattle.math.specs.Formulas.{clampOf}
+use Rattle.floor.specs.Formula.{floorOf, fractOf}
+use Rattle.floor.specs.Exact.{fractℚ}
+use Rattle.floor.proofs.Turned.{Turned}
+use Rattle.floor.proofs.Phase.{Phase, phase-finite, fract-turned}
 use Rattle.lfo_shapes.specs.Formula.{two₃₂, seven₃₂, wrapOf, samples, sampleOf, indexOf, sampledOf, triangleOf, squareOf, rampUpOf, rampDownOf, glideOf}
 use Rattle.lfo_shapes.specs.Exact.{wrapℚ, remainder, sampleℚ, triangleℚ, squareℚ, rampUpℚ, rampDownℚ, holdℚ, glideℚ}
 use Rattle.lfo_shapes.proofs.Earlier.{Previous, regular, tie, previous}

@@ -21,9 +21,10 @@ use Rattle.exact.proofs.Defined.{value-defined}
 use Rattle.exact.proofs.Order.{equal-sym, equal-trans, equal-at-most, ≤ℚ-trans, parts-≤ℚ, parts-equal}
 use Rattle.exact.proofs.Quanta.{equal⁺, equal⁻, quanta-of-equal, equal-of-quanta}
 use Rattle.exact.proofs.Sterbenz.{above, sub-exact}
-use Rattle.math.specs.Formulas.{clampOf, floorOf}
-use Rattle.math.proofs.FloorExact.{floor-fits}
-use Rattle.math.proofs.FloorLaws.{floor-value}
+use Rattle.math.specs.Formulas.{clampOf}
+use Rattle.floor.specs.Formula.{floorOf}
+use Rattle.floor.proofs.FloorExact.{floor-fits}
+use Rattle.floor.proofs.FloorLaws.{floor-value}
 use Rattle.lfo_shapes.specs.Formula.{eight₃₂, samples, sampleOf, indexOf, sampledOf}
 use Rattle.lfo_shapes.specs.Exact.{remainder}
 use Rattle.lfo_shapes.proofs.Index.{number, number-is, number-below, named}

@@ -19,7 +19,7 @@ use Rattle.exact.proofs.Defined.{value-defined}
 use Rattle.exact.proofs.Order.{≤ℚ-parts, parts-≤ℚ, ≤ℚ-trans, equal-sym, equal-at-most, le-value, between-finite}
 use Rattle.curve.specs.Curve.{positionOf}
 use Rattle.curve.proofs.Positions.{Level, level-finite, position-level}
-use Rattle.math.proofs.Phase.{Phase, from-zero}
+use Rattle.floor.proofs.Phase.{Phase, from-zero}
 use Rattle.settings.specs.declared.LfoShape.{LfoShape}
 use Rattle.settings.specs.declared.LfoShape.the-variants.{Sine, Triangle, Square, RampUp, RampDown, SampleAndHold, SampleAndGlide}
 use Rattle.settings.specs.Settings.{turnsOf}

@@ -28,7 +28,7 @@ use Rattle.exact.proofs.Operations.{Quanta}
 use Rattle.exact.proofs.Quanta.{in-format, nonnegative-quanta, quanta-value, equal⁻}
 use Rattle.exact.proofs.Sterbenz.{nonnegative-exact, finer-units, difference-exact}
 use Rattle.exact.proofs.Fract.{floor-negative}
-use Rattle.math.proofs.Phase.{Phase, from-zero, walked}
+use Rattle.floor.proofs.Phase.{Phase, from-zero, walked}
 use Rattle.lfo_shapes.specs.Formula.{samples, sampledOf}
 use Rattle.lfo_shapes.specs.Exact.{remainder}
 use Rattle.exact.proofs.FloorUnique.{floor-unique, floor-equal, floor-less-one}

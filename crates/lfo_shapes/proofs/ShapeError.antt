@@ -20,10 +20,10 @@ use Rattle.exact.proofs.Soundness.{plainly}
 use Rattle.exact.proofs.Inputs.{one, one-input, covers, concludes, concluded, relax, result}
 use Rattle.curve.specs.Curve.{positionOf, drawnOf, Drawn}
 use Rattle.curve.proofs.Clamped.{drawn-near}
-use Rattle.math.specs.Formulas.{sinTurnsOf}
-use Rattle.math.specs.Series.{sinTurnsℚ}
-use Rattle.math.proofs.Phase.{Phase}
-use Rattle.math.proofs.SineEnclosure.{sineBound, sine-enclosed}
+use Rattle.sine.specs.Formula.{sinTurnsOf}
+use Rattle.sine.specs.Exact.{sinTurnsℚ}
+use Rattle.floor.proofs.Phase.{Phase}
+use Rattle.sine.proofs.SineEnclosure.{sineBound, sine-enclosed}
 use Rattle.settings.specs.declared.LfoShape.{LfoShape}
 use Rattle.settings.specs.declared.LfoShape.the-variants.{Sine, Triangle, Square, RampUp, RampDown, SampleAndHold, SampleAndGlide}
 use Rattle.settings.specs.Settings.{turnsOf}

@@ -19,8 +19,8 @@ use Rattle.exact.proofs.Inequality.{nlt-le, scale-le}
 use Rattle.exact.proofs.Sterbenz.{sterbenz-of}
 use Rattle.exact.proofs.Quanta.{equal⁺, equal⁻}
 use Rattle.curve.proofs.Positions.{Level, level-finite}
-use Rattle.math.proofs.Fold.{Turned, chosen}
-use Rattle.math.proofs.Phase.{Phase, phase-finite}
+use Rattle.floor.proofs.Turned.{Turned, chosen}
+use Rattle.floor.proofs.Phase.{Phase, phase-finite}
 use Rattle.lfo_shapes.specs.Formula.{two₃₂, wrapOf, samples, sampledOf, triangleOf, squareOf, rampUpOf}
 use Rattle.lfo_shapes.specs.Exact.{wrapℚ, remainder, sampleℚ, triangleℚ, squareℚ, rampUpℚ, holdℚ}
 use Rattle.lfo_shapes.proofs.Scaling.{times-power}

@@ -14,10 +14,10 @@ use Rattle.exact.specs.Binary32.{zero₃₂, half₃₂, one₃₂}
 use Rattle.exact.proofs.Defined.{value-defined, choice-is}
 use Rattle.exact.proofs.Order.{cross, ≤ℚ-parts, ltℚ-parts, equal-refl, le-value}
 use Rattle.exact.proofs.Inequality.{nlt-le, lt-equal}
-use Rattle.math.specs.Formulas.{floorOf, fractOf}
-use Rattle.math.specs.Series.{fractℚ}
-use Rattle.math.proofs.Fold.{Turned, compared}
-use Rattle.math.proofs.Phase.{Phase, phase-finite, fract-fits, fract-turned}
+use Rattle.floor.specs.Formula.{floorOf, fractOf}
+use Rattle.floor.specs.Exact.{fractℚ}
+use Rattle.floor.proofs.Turned.{Turned, compared}
+use Rattle.floor.proofs.Phase.{Phase, phase-finite, fract-fits, fract-turned}
 use Rattle.lfo_shapes.specs.Formula.{wrapOf}
 use Rattle.lfo_shapes.specs.Exact.{wrapℚ}
 

@@ -6,7 +6,8 @@ use lib.ListN.{getD}
 use Rattle.exact.specs.Fraction.{Fraction, ratio, floorOver, ifBelow, atFloor, _+ℚ_, _-ℚ_, _*ℚ_}
 use Rattle.exact.specs.Value.{value}
 use Rattle.exact.specs.Binary32.{half₃₂}
-use Rattle.math.specs.Series.{fractℚ, sinTurnsℚ}
+use Rattle.floor.specs.Exact.{fractℚ}
+use Rattle.sine.specs.Exact.{sinTurnsℚ}
 use Rattle.settings.specs.declared.LfoShape.{LfoShape}
 use Rattle.settings.specs.declared.LfoShape.the-variants.{Sine, Triangle, Square, RampUp, RampDown, SampleAndHold, SampleAndGlide}
 use Rattle.lfo_shapes.specs.Formula.{samples}

@@ -5,7 +5,9 @@ use mathlib.Core.List.{List, [], _∷_}
 use lib.ListN.{getD}
 use lib.Ieee.{Float, lt, le, toUnsigned}
 use Rattle.exact.specs.Binary32.{_⊕_, _⊖_, _⊗_, _⊘_, bits, zero₃₂, half₃₂, one₃₂}
-use Rattle.math.specs.Formulas.{clampOf, floorOf, fractOf, sinTurnsOf}
+use Rattle.math.specs.Formulas.{clampOf}
+use Rattle.floor.specs.Formula.{floorOf, fractOf}
+use Rattle.sine.specs.Formula.{sinTurnsOf}
 use Rattle.settings.specs.declared.LfoShape.{LfoShape}
 use Rattle.settings.specs.declared.LfoShape.the-variants.{Sine, Triangle, Square, RampUp, RampDown, SampleAndHold, SampleAndGlide}
 

@@ -1,10 +1,10 @@
 // The LFO's shapes, by the phase: a number of cycles.
 ghost use mathlib.Core.Path.{_≡_};
 ghost use Rattle.lfo_shapes.specs.Formula.{wrapOf, sampleOf, sampledOf, sineOf, triangleOf, squareOf, rampDownOf, glideOf, shapeAtOf};
-use math::floor;
-use math::fract;
-use math::sin_turns;
+use floor::floor;
+use floor::fract;
 use settings::LfoShape;
+use sine::sin_turns;
 
 // Where the phase falls within its cycle. At the end of a cycle it is 1, and not the 0 of the next.
 fn wrap(phase: f32) -> f32

@@ -1,16 +1,49 @@
 -- A NUMBER OF 16 BITS AS A FLOAT: n over the bits of 2 ^ 23 is the float 2 ^ 23 + n. Assumes nothing.
-use mathlib.Core.Path.{_≡_, sym, ap, _∙_, subst}
-use mathlib.Core.Bool.{false}
-use Prim.Native.Nat.{ℕ, _+_, _-_, _/_, _%_, _^_, _<_}
+use mathlib.Core.Path.{_≡_, refl, sym, ap, _∙_, subst}
+use mathlib.Core.Bool.{Bool, true, false, cond}
+use Prim.Native.Nat.{ℕ, zero, suc, _+_, _-_, _*_, _/_, _%_, _^_, _≤_, _<_}
+use native.Mathlib.Nat.{mul-one, mul-right-comm, eq-of-mul-eq-mul-right}
 use native.Mathlib.Omega.{arith}
-use lib.IntN.{pos}
+use lib.IntN.{ℤ, pos, negsuc, negℤ, subℕ}
 use lib.Pow.{pow-pos}
-use lib.Ieee.{Float, binary32, odd, ofInt}
+use lib.Ieee.{Float, nan, inf, fin, binary32, up, down, odd, ofInt, ofBits, neg, sub}
 use lib.Ieee.Exact.{HasValue, odd-sign}
-use Rattle.exact.specs.Binary32.{_⊖_, bits}
+use borrow.Author.Tests.{lt-ltb, le-ltb}
+use Rattle.exact.specs.Binary32.{_⊕_, _⊖_, bits}
 use Rattle.math.proofs.Bits.{bits-are}
-use Rattle.math.proofs.NearWhole.{step, cancel, taken}
+use Rattle.math.proofs.Whole.{sum-whole}
 
+-- a common factor of a value's fraction is left out
+pub cancel : (x : Float) (s : Bool) (q p : ℕ) → 0 < p → HasValue x s (q * p) p → HasValue x s q 1
+cancel nan s q p h v = v
+cancel (inf t) s q p h v = v
+cancel (fin t m e) s q p h v = (v .0, mul-one (m * up e) ∙ eq-of-mul-eq-mul-right p h (m * up e) (q * down e) (v .1 ∙ mul-right-comm q p (down e)))
+
+-- ---- 2 ^ 23 taken off a whole number from there up
+abbrev pub step : Float
+step = bits 0x4b00_0000
+
+-- w - (q + 1), not above 0
+pub minus-is : (w q : ℕ) → w ≤ suc q → subℕ w (suc q) ≡ negℤ (pos (suc q - w))
+minus-is w q h = go (suc q - w) refl
+  where
+    go : (r : ℕ) → suc q - w ≡ r → subℕ w (suc q) ≡ negℤ (pos r)
+    go zero e =
+        let l : suc q ≤ w = omega arith in
+        let z : w - suc q ≡ 0 = omega arith in
+        simp (le-ltb w (suc q) l, z)
+    go (suc r) e =
+        let l : w < suc q = omega arith in
+        let z : suc q - suc w ≡ r = omega arith in
+        simp (lt-ltb w (suc q) l, z)
+
+pub taken : (s : Bool) (x : Float) (Q : ℕ) → 8388608 ≤ Q → HasValue x s Q 1 → cond s (x ⊕ step) (x ⊖ step) ≡ ofInt binary32 (cond s (negℤ (pos (Q - 8388608))) (pos (Q - 8388608)))
+unfolding sub neg ofBits
+taken false x Q h v = sum-whole x (neg step) (pos Q) (negsuc 8388607) v (refl, refl) ∙ simp (le-ltb Q 8388608 h)
+taken true x zero h v = absurd (omega arith)
+taken true x (suc Q) h v = sum-whole x step (negsuc Q) (pos 8388608) v (refl, refl) ∙ ap (λ (z : ℤ). ofInt binary32 z) (minus-is 8388608 Q h)
+
+-- ---- n over the bits of 2 ^ 23
 digits : (n : ℕ) → n < 65536 → HasValue (bits (0x4b00_0000 + n)) false (8388608 + n) 1
 digits n h = subst (λ (x : Float). HasValue x false (8388608 + n) 1) (sym is) (cancel (odd 24 false (8388608 + n) 149 149) false (8388608 + n) (2 ^ 149) (pow-pos 149) (odd-sign 24 false (8388608 + n) 149 149))
   where

@@ -1,11 +1,12 @@
 -- A test for a NaN by `x != x`, and what is none. Assumes nothing.
 use mathlib.Core.Path.{_≡_, refl, sym, _∙_, subst}
 use mathlib.Core.Bool.{Bool, true, false, not}
-use Prim.Native.Nat.{_*_}
+use Prim.Native.Nat.{ℕ, _*_, _/_, _%_, _<_}
+use native.Mathlib.Omega.{arith}
 use lib.Dec.{T}
-use lib.Ieee.{Float, nan, inf, fin, up, down, ne, isNan}
+use lib.Ieee.{Float, nan, inf, fin, binary32, up, down, ne, isNan, nanBits}
 use lib.Ieee.Scale.{finite}
-use borrow.Author.Tests.{eq-eqb}
+use borrow.Author.Tests.{eq-eqb, ne-eqb}
 
 ne-self : (x : Float) → ne x x ≡ isNan x
 unfolding ne isNan
@@ -26,3 +27,11 @@ unfolding isNan
 finite-number nan h = absurd h
 finite-number (inf s) h = absurd h
 finite-number (fin s m e) h = refl
+
+-- ---- a pattern below that of infinity is none's
+not-ones : (b : ℕ) → b < 2139095040 → b % 2147483648 / 8388608 ≡ 255 → ⊥
+not-ones b h e = omega arith
+
+pub number-bits : (b : ℕ) → b < 2139095040 → T (not (nanBits binary32 b))
+unfolding nanBits
+number-bits b h = simp (ne-eqb (b % 2147483648 / 8388608) 255 (not-ones b h)) tt

@@ -1,4 +1,2 @@
--- The functions of math.rs in binary32, and the exact series that they stand for.
-pub mod Horner
+-- The small functions of floats, in binary32.
 pub mod Formulas
-pub mod Series

@@ -21,11 +21,12 @@ use Rattle.exact.proofs.Bounds.{lower-at, upper-at}
 use Rattle.exact.proofs.Analyser.{Bound, Expr, var, constant, plus, times, Approximates, plain, evalFloat, evalExact, analyse}
 use Rattle.exact.proofs.Soundness.{plainly}
 use Rattle.exact.proofs.Inputs.{range, one, one-input, exact-input, covers, concludes, concluded}
-use Rattle.math.specs.Formulas.{fractOf, sinTurnsOf}
-use Rattle.math.specs.Series.{fractℚ}
-use Rattle.math.proofs.Phase.{Phase, from-zero, fract-turned}
+use Rattle.floor.specs.Formula.{fractOf}
+use Rattle.sine.specs.Formula.{sinTurnsOf}
+use Rattle.floor.specs.Exact.{fractℚ}
+use Rattle.floor.proofs.Phase.{Phase, from-zero, fract-turned}
 use Rattle.exact.proofs.OwnRange.{approximates-finite, own-range}
-use Rattle.math.proofs.SineEnclosure.{sineRange, sin-turns-range}
+use Rattle.sine.proofs.SineEnclosure.{sineRange, sin-turns-range}
 use Rattle.curve.proofs.Positions.{Level, level-finite}
 use Rattle.noise.specs.Formula.{noiseAtOf}
 use Rattle.curve.proofs.LevelInput.{unit, level-input}

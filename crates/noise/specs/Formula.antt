@@ -2,7 +2,8 @@
 -- to 1, before the last clamp. Definitions only.
 use lib.Ieee.{Float}
 use Rattle.exact.specs.Binary32.{_⊕_, _⊖_, _⊗_, bits, half₃₂}
-use Rattle.math.specs.Formulas.{fractOf, sinTurnsOf}
+use Rattle.floor.specs.Formula.{fractOf}
+use Rattle.sine.specs.Formula.{sinTurnsOf}
 use Rattle.curve.specs.declared.Height.{Height}
 use Rattle.curve.specs.Curve.{positionOf, drawnOf}
 use Rattle.settings.specs.declared.Noise.{Noise}

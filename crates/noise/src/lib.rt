@@ -4,9 +4,9 @@ ghost use Rattle.noise.specs.Formula.{noiseAtOf, noiseLevelOf, noiseHeig
 use curve::Height;
 use curve::drawn;
 use curve::position;
-use math::fract;
-use math::sin_turns;
+use floor::fract;
 use settings::Noise;
+use sine::sin_turns;
 
 // A scatter value for a position, the same on every call.
 pub fn noise_at(t: f32) -> f32

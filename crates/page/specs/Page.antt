@@ -4,7 +4,7 @@ use mathlib.Core.List.{List, [], _++_}
 use Prim.Native.Nat.{ℕ}
 use lib.Dec.{eqb}
 use lib.ListN.{length}
-use Rattle.codes.specs.Bytes.{byteAt, gatesByte, blockLength}
+use Rattle.code_bytes.specs.Bytes.{byteAt, gatesByte, blockLength}
 use Rattle.text.specs.Text.{ascii}
 use Rattle.program_name.specs.ProgramName.{nameInXml}
 use Rattle.provenance.specs.Provenance.{fileText}

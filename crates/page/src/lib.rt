@@ -2,10 +2,10 @@
 ghost use mathlib.Core.Path.{_≡_};
 ghost use lib.ListN.{length};
 ghost use Rattle.text.specs.Text.{Puts};
-ghost use Rattle.codes.specs.Bytes.{blockLength};
+ghost use Rattle.code_bytes.specs.Bytes.{blockLength};
 ghost use Rattle.page.specs.Page.{styleText, nameText, headText, footText, pageOf, pageText};
 use block::BLOCK;
-use codes::GATE_TIME;
+use code_bytes::GATE_TIME;
 use page_panels::put_arpeggio;
 use page_panels::put_panels;
 use program_name::put_name_in_xml;

@@ -15,10 +15,10 @@ use Rattle.codes.specs.declared.Code.{Code}
 use Rattle.codes.specs.declared.CodeRead.{CodeRead}
 use Rattle.codes.specs.declared.CodeRead.the-variants.{Known, Above}
 use Rattle.codes.specs.Codes.{codeOf}
-use Rattle.codes.specs.Bytes.{blockLength, byteAt}
+use Rattle.code_bytes.specs.Bytes.{blockLength, byteAt}
 use Rattle.code_shapes.specs.Shapes.{shapeOf}
 use Rattle.text.specs.Text.{ascii}
-use Rattle.text.specs.Spelled.{decimalOf}
+use Rattle.numerals.specs.Spelled.{decimalOf}
 use Rattle.dials.specs.Dials.{dialsOf}
 use Rattle.dial_lines.specs.Lines.{onlyDial}
 use Rattle.panel.specs.Labels.{subtitleText}

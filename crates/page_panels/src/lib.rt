@@ -4,7 +4,7 @@ ghost use Prim.Native.Nat.{_<_};
 ghost use lib.Dec.{eqb};
 ghost use lib.ListN.{length};
 ghost use Rattle.text.specs.Text.{Puts};
-ghost use Rattle.codes.specs.Bytes.{blockLength, byteAt};
+ghost use Rattle.code_bytes.specs.Bytes.{blockLength, byteAt};
 ghost use Rattle.code_shapes.specs.Shapes.{shapeOf};
 ghost use Rattle.page_panels.specs.Panels.{placeText, panelEnd, drawnText, olderText, codePanel, panelText, panelsText, arpeggioText};
 use block::BLOCK;
@@ -15,11 +15,11 @@ use codes::CODES;
 use codes::Code;
 use codes::CodeRead;
 use codes::code_from;
+use numerals::put_decimal;
 use panel::SAMPLES;
 use panel::put_frame;
 use panel::put_title;
 use text::put;
-use text::put_decimal;
 
 fn put_place(out: &mut [u8], at: usize, k: u8) -> usize
     requires { ⌜ k < 15 ⌝ }

@@ -6,7 +6,7 @@ use lib.Dec.{eqb}
 use lib.Ieee.{Float}
 use Rattle.exact.specs.Binary32.{_⊘_, bits}
 use Rattle.text.specs.Text.{ascii}
-use Rattle.text.specs.Spelled.{decimalOf}
+use Rattle.numerals.specs.Spelled.{decimalOf}
 use Rattle.fixed_point.specs.Nearest.{nearestOf}
 use Rattle.generator.specs.declared.Scale.{Scale}
 use Rattle.generator.specs.declared.Scale.the-variants.{Normalised, Turns, Octaves}

@@ -5,7 +5,7 @@ use Prim.Native.Nat.{ℕ, zero, suc, _*_, min}
 use lib.ListN.{length, getD}
 use lib.Ieee.{Float, nan}
 use Rattle.text.specs.Text.{ascii}
-use Rattle.text.specs.Spelled.{decimalOf}
+use Rattle.numerals.specs.Spelled.{decimalOf}
 use Rattle.fixed_point.specs.Nearest.{nearestOf}
 use Rattle.labels.specs.Names.{titleOf}
 

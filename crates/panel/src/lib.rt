@@ -8,8 +8,8 @@ ghost use Rattle.panel.specs.Pieces.{frameText, titleText, restText, poi
 use fixed_point::nearest;
 use generator::Scale;
 use lists::at_most;
+use numerals::put_decimal;
 use text::put;
-use text::put_decimal;
 
 // The samples between the two edges of a frame.
 pub const SAMPLES: usize = 501;

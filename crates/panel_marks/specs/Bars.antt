@@ -3,7 +3,7 @@ use mathlib.Core.List.{List, [], _++_}
 use Prim.Native.Nat.{ℕ, zero, suc, min}
 use Rattle.exact.specs.Binary32.{_⊘_, bits}
 use Rattle.text.specs.Text.{ascii}
-use Rattle.text.specs.Spelled.{decimalOf}
+use Rattle.numerals.specs.Spelled.{decimalOf}
 use Rattle.gates.specs.declared.Gate.{Gate}
 use Rattle.gates.specs.declared.Gates.{Gates}
 use Rattle.gates.specs.Gates.{gateAt}

@@ -3,8 +3,8 @@ use mathlib.Core.List.{List, [], _++_}
 use Prim.Native.Nat.{ℕ, zero, suc, _+_, _*_, min}
 use lib.Ieee.{Float}
 use Rattle.text.specs.Text.{ascii}
-use Rattle.text.specs.Spelled.{decimalOf}
-use Rattle.text.specs.Words.{wordOf}
+use Rattle.numerals.specs.Spelled.{decimalOf}
+use Rattle.words.specs.Words.{wordOf}
 use Rattle.fixed_point.specs.Nearest.{nearestOf}
 use Rattle.marks.specs.declared.MarkKind.{MarkKind}
 use Rattle.marks.specs.declared.MarkKind.the-variants.{Segment as ASegment, Corner, Cycle, Tap, Width, Sweep}

@@ -14,9 +14,9 @@ use marks::Mark;
 use marks::MarkKind;
 use marks::Marks;
 use marks::kind_number;
+use numerals::put_decimal;
 use text::put;
-use text::put_decimal;
-use text::put_word;
+use words::put_word;
 
 // ---- the marks
 fn put_kind(out: &mut [u8], at: usize, kind: MarkKind) -> usize

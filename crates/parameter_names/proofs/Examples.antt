@@ -5,8 +5,8 @@ use mathlib.Core.List.{List, [], _∷_}
 use Prim.Native.Nat.{ℕ, suc}
 use lib.Dec.{eqb}
 use Rattle.text.specs.Text.{ascii}
-use Rattle.text.specs.Escaped.{allPlain}
-use Rattle.text.specs.Words.{bar, firstWord, pastBar, wordOf}
+use Rattle.escapes.specs.Escaped.{allPlain}
+use Rattle.words.specs.Words.{bar, firstWord, pastBar, wordOf}
 use Rattle.parameter_names.specs.ParameterNames.{parameterNames, parameterName}
 
 -- How many words there are, if none is empty; `begun` where the one before has a character.

@@ -2,7 +2,7 @@
 use mathlib.Core.List.{List, _++_}
 use Prim.Native.Nat.{ℕ}
 use Rattle.text.specs.Text.{ascii}
-use Rattle.text.specs.Words.{wordOf}
+use Rattle.words.specs.Words.{wordOf}
 
 -- The names of bytes 0 to 241, in order. reference/names/check holds them to the reference's.
 abbrev pub parameterNames : List ℕ

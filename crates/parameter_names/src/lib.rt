@@ -1,7 +1,7 @@
 // The names of a program's 242 parameters.
 ghost use Rattle.text.specs.Text.{Puts};
 ghost use Rattle.parameter_names.specs.ParameterNames.{parameterName};
-use text::put_word;
+use words::put_word;
 
 // The name of the parameter in byte n; of a byte past the last, the last parameter's.
 pub fn put_parameter_name(out: &mut [u8], at: usize, n: u8) -> usize

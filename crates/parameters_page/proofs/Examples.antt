@@ -1,10 +1,10 @@
 -- Rows, computed from their definition: one that begins a group, one that the sheet draws, and the last. Assumes nothing.
 use mathlib.Core.Path.{_≡_, refl}
 use Rattle.text.specs.Text.{ascii}
-use Rattle.text.specs.Spelled.{glyphOf, digitsOf, placesFrom, decimalOf}
-use Rattle.text.specs.Words.{firstWord, pastBar, wordOf, indexOf}
+use Rattle.numerals.specs.Spelled.{glyphOf, digitsOf, placesFrom, decimalOf}
+use Rattle.words.specs.Words.{firstWord, pastBar, wordOf, indexOf}
 use Rattle.codes.specs.Codes.{codes, codeIn}
-use Rattle.codes.specs.Bytes.{bytesOf}
+use Rattle.code_bytes.specs.Bytes.{bytesOf}
 use Rattle.undrawn_bytes.specs.Undrawn.{readBy, drawnBy, drawn}
 use Rattle.parameters_page.specs.ParametersPage.{placeText, ruleText, dotText, cellsText, rowText}
 

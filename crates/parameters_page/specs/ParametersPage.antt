@@ -5,10 +5,10 @@ use mathlib.Core.List.{List, [], _∷_, _++_}
 use Prim.Native.Nat.{ℕ, zero, suc, _+_, _*_, _/_, _%_}
 use lib.Dec.{eqb, ltb}
 use lib.ListN.{length}
-use Rattle.codes.specs.Bytes.{byteAt, blockLength}
+use Rattle.code_bytes.specs.Bytes.{byteAt, blockLength}
 use Rattle.text.specs.Text.{ascii}
-use Rattle.text.specs.Spelled.{decimalOf}
-use Rattle.text.specs.Words.{indexOf}
+use Rattle.numerals.specs.Spelled.{decimalOf}
+use Rattle.words.specs.Words.{indexOf}
 use Rattle.parameter_names.specs.ParameterNames.{parameterName}
 use Rattle.provenance.specs.Provenance.{nameText, fileText}
 use Rattle.undrawn_bytes.specs.Undrawn.{drawn}

@@ -2,16 +2,16 @@
 ghost use mathlib.Core.Path.{_≡_};
 ghost use lib.ListN.{length};
 ghost use Rattle.text.specs.Text.{Puts};
-ghost use Rattle.codes.specs.Bytes.{byteAt, blockLength};
+ghost use Rattle.code_bytes.specs.Bytes.{byteAt, blockLength};
 ghost use Rattle.parameters_page.specs.ParametersPage.{styleText, headText, placeText, ruleText, dotText, cellsText, rowText, rowsText, footText, parametersOf, parametersText};
+use numerals::put_decimal;
 use parameter_names::put_parameter_name;
 use provenance::put_file;
 use provenance::put_name;
-use text::index_of;
 use text::put;
-use text::put_decimal;
 use undrawn_bytes::BYTES;
 use undrawn_bytes::is_drawn;
+use words::index_of;
 
 // ---- head and foot
 fn put_style(out: &mut [u8], at: usize) -> usize

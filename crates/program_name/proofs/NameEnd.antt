@@ -3,7 +3,7 @@ use mathlib.Core.Path.{_≡_, refl}
 use mathlib.Core.List.{List}
 use Prim.Native.Nat.{ℕ, zero, suc}
 use borrow.Author.Tests.{ne-eqb}
-use Rattle.codes.specs.Bytes.{byteAt}
+use Rattle.code_bytes.specs.Bytes.{byteAt}
 use Rattle.program_name.specs.ProgramName.{endFrom}
 
 pub end-none : (block : List ℕ) (i : ℕ) → endFrom block 0 i ≡ i

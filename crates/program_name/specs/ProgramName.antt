@@ -4,8 +4,8 @@ use mathlib.Core.List.{List}
 use Prim.Native.Nat.{ℕ, zero, suc, _-_}
 use lib.Dec.{eqb}
 use lib.ListN.{take, drop}
-use Rattle.codes.specs.Bytes.{byteAt}
-use Rattle.text.specs.Escaped.{escapedAll, shownAll}
+use Rattle.code_bytes.specs.Bytes.{byteAt}
+use Rattle.escapes.specs.Escaped.{escapedAll, shownAll}
 
 -- The first of the n bytes from number i on that is 0, or the byte after them.
 unfoldable pub endFrom : List ℕ → ℕ → ℕ → ℕ

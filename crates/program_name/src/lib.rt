@@ -3,11 +3,11 @@ ghost use mathlib.Core.Path.{_≡_};
 ghost use Prim.Native.Nat.{_≤_};
 ghost use lib.ListN.{length};
 ghost use Rattle.text.specs.Text.{Puts};
-ghost use Rattle.codes.specs.Bytes.{blockLength};
+ghost use Rattle.code_bytes.specs.Bytes.{blockLength};
 ghost use Rattle.program_name.specs.ProgramName.{nameEnd, nameInXml, nameInLine};
+use escapes::put_escaped_all;
+use escapes::put_shown_all;
 use text::put;
-use text::put_escaped_all;
-use text::put_shown_all;
 
 // The bytes of the name, with its terminator.
 const NAME: usize = 223;

@@ -5,8 +5,8 @@ use Prim.Native.Nat.{ℕ}
 use lib.Dec.{eqb}
 use lib.ListN.{length}
 use Rattle.text.specs.Text.{ascii}
-use Rattle.text.specs.Spelled.{hexOf}
-use Rattle.text.specs.Escaped.{escapedAll}
+use Rattle.numerals.specs.Spelled.{hexOf}
+use Rattle.escapes.specs.Escaped.{escapedAll}
 use Rattle.program_name.specs.ProgramName.{nameInXml}
 use Rattle.fingerprint.specs.Crc32.{crc32Of}
 

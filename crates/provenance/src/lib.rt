@@ -2,13 +2,13 @@
 ghost use mathlib.Core.Path.{_≡_};
 ghost use lib.ListN.{length};
 ghost use Rattle.text.specs.Text.{Puts};
-ghost use Rattle.codes.specs.Bytes.{blockLength};
+ghost use Rattle.code_bytes.specs.Bytes.{blockLength};
 ghost use Rattle.provenance.specs.Provenance.{nameText, fileName, fileText};
+use escapes::put_escaped_all;
 use fingerprint::crc32;
+use numerals::put_hex;
 use program_name::put_name_in_xml;
 use text::put;
-use text::put_escaped_all;
-use text::put_hex;
 
 // The name, and what stands in its place where it has no character.
 pub fn put_name(out: &mut [u8], at: usize, file: &[u8], block: &[u8]) -> usize

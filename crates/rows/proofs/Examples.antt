@@ -7,7 +7,7 @@ use Rattle.exact.specs.Binary32.{bits}
 use Rattle.math.specs.Formulas.{clampOf}
 use Rattle.curve.specs.Curve.{positionOf}
 use Rattle.text.specs.Text.{ascii}
-use Rattle.text.specs.Spelled.{glyphOf, digitsOf, placesFrom, decimalOf, hexOf, fixedOf}
+use Rattle.numerals.specs.Spelled.{glyphOf, digitsOf, placesFrom, decimalOf, hexOf, fixedOf}
 use Rattle.fixed_point.specs.Nearest.{nearestOf}
 use Rattle.rows.specs.declared.Number.the-variants.{Value, NotANumber}
 use Rattle.rows.specs.Rows.{ninePlaces, decimalsText, rowText}

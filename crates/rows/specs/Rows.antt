@@ -6,7 +6,7 @@ use lib.Dec.{leb}
 use lib.ListN.{length, getD}
 use lib.Ieee.{Float, nan, binary32, toBits}
 use Rattle.text.specs.Text.{ascii}
-use Rattle.text.specs.Spelled.{hexOf, fixedOf}
+use Rattle.numerals.specs.Spelled.{hexOf, fixedOf}
 use Rattle.fixed_point.specs.Nearest.{nearestOf}
 use Rattle.strip.specs.Strip.{samplePosition}
 

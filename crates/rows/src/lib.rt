@@ -7,10 +7,10 @@ ghost use Rattle.rows.specs.Rows.{ninePlaces, decimalsText, rowText, sam
 ghost use Rattle.rows.specs.Reading.{readOf};
 use fixed_point::nearest;
 use float_bits::word_of;
+use numerals::put_fixed;
+use numerals::put_hex;
 use strip::sample_position;
 use text::put;
-use text::put_fixed;
-use text::put_hex;
 
 // The most samples whose numbers fit 16 bits.
 const MAX_ROWS: usize = 65536;

@@ -8,9 +8,9 @@ use lib.Ieee.Fits.{and-l, and-r, mul-fits, div-fits}
 use lib.Ieee.Positive.{num, den}
 use Rattle.exact.specs.Binary32.{bits, zero₃₂, one₃₂}
 use Rattle.exact.proofs.Monotone.{unsigned, cross-le}
-use Rattle.math.specs.Formulas.{exp2Of, exp2Within}
+use Rattle.exp2.specs.Formula.{exp2Of, exp2Within}
 use Rattle.lists.proofs.Every.{every, each}
-use Rattle.math.proofs.Bend.{bend-from-quarter, bend-to-four}
+use Rattle.exp2.proofs.Bend.{bend-from-quarter, bend-to-four}
 use Rattle.curve.proofs.Positions.{Level}
 use Rattle.settings.specs.Settings.{byteOf, bendOf}
 use Rattle.settings.proofs.Ranges.{BendRange}

@@ -7,8 +7,10 @@ use Prim.Native.Nat.{ℕ}
 use lib.Dec.{T, eqb}
 use lib.Ieee.{Float, binary32, ofBits, toBits, ofInt, add, sub, mul, div, neg, lt}
 use Rattle.exact.specs.Value.{value}
-use Rattle.math.specs.Horner.{horner}
-use Rattle.math.specs.Formulas.{clampOf, floorOf, fractOf, exp2Scale, exp2Coefficients, exp2Within, exp2Of}
+use Rattle.series.specs.Horner.{horner}
+use Rattle.math.specs.Formulas.{clampOf}
+use Rattle.floor.specs.Formula.{floorOf, fractOf}
+use Rattle.exp2.specs.Formula.{exp2Scale, exp2Coefficients, exp2Within, exp2Of}
 use Rattle.lists.proofs.Rows.{allPass}
 use Rattle.settings.specs.declared.LfoShape.{LfoShape}
 use Rattle.settings.specs.declared.LfoShape.the-variants.{Sine, Triangle, Square, RampUp, RampDown, SampleAndHold, SampleAndGlide}

@@ -1,7 +1,7 @@
 // The settings that a program's bytes give each generator: plain data, built by value.
 ghost use mathlib.Core.Path.{_≡_};
 ghost use Rattle.settings.specs.Settings.{byteOf, bendOf, sustainEndOf, envelopeOf, lfoShapeOf, turnsOf, lfoOf, fadeOf, lowPassOf, highPassOf, poleSlopeOf, isManual, oscillatorOneOf, oscillatorTwoOf, noiseOf};
-use math::exp2;
+use exp2::exp2;
 use math::from_u16;
 
 // Where an envelope's attack, decay and sustain end, its two levels, and the bends of its timed segments.

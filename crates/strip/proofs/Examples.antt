@@ -7,7 +7,8 @@ use lib.Dec.{T, eqb}
 use lib.Ieee.{binary32, ofBits, toBits, ofInt, isNan, lt, le, eq, neg, add, sub, mul, div}
 use Rattle.exact.specs.Value.{value}
 use Rattle.exact.specs.Binary32.{zero₃₂, half₃₂, one₃₂}
-use Rattle.math.specs.Formulas.{clampOf, floorOf, fractOf}
+use Rattle.math.specs.Formulas.{clampOf}
+use Rattle.floor.specs.Formula.{floorOf, fractOf}
 use Rattle.lists.proofs.Rows.{allPass}
 use Rattle.curve.specs.Curve.{positionOf, drawnOf}
 use Rattle.settings.specs.Settings.{byteOf, lfoShapeOf, turnsOf, lfoOf}

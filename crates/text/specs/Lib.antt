@@ -1,5 +1,2 @@
--- Text in a lent buffer, and numbers, bytes and words as text.
+-- Text in a lent buffer.
 pub mod Text
-pub mod Spelled
-pub mod Escaped
-pub mod Words

@@ -8,9 +8,9 @@ use borrow.Author.Tests.{ne-eqb}
 use lib.Dec.{ltb}
 use lib.ListN.{length, take}
 use lib.Seq.{length-take-le}
-use Rattle.text.specs.Words.{indexOf}
+use Rattle.words.specs.Words.{indexOf}
 use Rattle.codes.specs.Codes.{codeOf}
-use Rattle.codes.specs.Bytes.{gatesByte}
+use Rattle.code_bytes.specs.Bytes.{gatesByte}
 use Rattle.undrawn_bytes.specs.Undrawn.{readBy, drawnBy, drawn}
 
 -- The place of a byte among the first of an array is below their number where it is among the bytes that they are.

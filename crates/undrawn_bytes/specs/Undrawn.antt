@@ -5,12 +5,12 @@ use Prim.Native.Nat.{ℕ, zero, suc, _+_}
 use lib.Dec.{eqb, ltb}
 use lib.ListN.{length}
 use Rattle.text.specs.Text.{ascii}
-use Rattle.text.specs.Spelled.{decimalOf}
-use Rattle.text.specs.Words.{indexOf}
+use Rattle.numerals.specs.Spelled.{decimalOf}
+use Rattle.words.specs.Words.{indexOf}
 use Rattle.codes.specs.declared.CodeRead.{CodeRead}
 use Rattle.codes.specs.declared.CodeRead.the-variants.{Known, Above}
 use Rattle.codes.specs.Codes.{codeOf}
-use Rattle.codes.specs.Bytes.{bytesOf, gatesByte, blockLength}
+use Rattle.code_bytes.specs.Bytes.{bytesOf, gatesByte, blockLength}
 use Rattle.parameter_names.specs.ParameterNames.{parameterName}
 
 -- ---- which bytes are drawn

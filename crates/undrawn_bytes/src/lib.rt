@@ -4,17 +4,17 @@ ghost use Prim.Native.Nat.{_≤_};
 ghost use lib.ListN.{length};
 ghost use Rattle.text.specs.Text.{Puts};
 ghost use Rattle.codes.specs.Codes.{codeOf};
-ghost use Rattle.codes.specs.Bytes.{byteAt, blockLength};
+ghost use Rattle.code_bytes.specs.Bytes.{byteAt, blockLength};
 ghost use Rattle.undrawn_bytes.specs.Undrawn.{readBy, drawn, differs, namedText, lineText, changeText, undrawnText, differCount, undrawnCount, undrawnPart};
+use code_bytes::GATE_TIME;
+use code_bytes::bytes_of;
 use codes::CODES;
 use codes::CodeRead;
-use codes::GATE_TIME;
-use codes::bytes_of;
 use codes::code_from;
+use numerals::put_decimal;
 use parameter_names::put_parameter_name;
-use text::index_of;
 use text::put;
-use text::put_decimal;
+use words::index_of;
 
 // How many bytes a block has.
 pub const BYTES: u8 = 242;

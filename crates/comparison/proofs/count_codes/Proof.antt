@@ -1,7 +1,7 @@
 -- `count_codes` is `codesCount`. The loop's invariant: those of the first codes are counted. Assumes nothing.
 use mathlib.Core.Path.{_≡_}
 use Prim.Native.Nat.{_-_, _≤_}
-use Rattle.codes.specs.Bytes.{byteAt}
+use Rattle.code_bytes.specs.Bytes.{byteAt}
 use Rattle.comparison.specs.Differences.{codesCount}
 use Rattle.comparison.proofs.Steps.{none-counted, count-more, all-counted}
 use borrow.Author.Needs.{needs}

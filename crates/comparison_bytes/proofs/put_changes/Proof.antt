@@ -3,7 +3,7 @@ use mathlib.Core.Path.{_≡_}
 use Prim.Native.Nat.{_-_, _≤_}
 use lib.ListN.{length, drop}
 use Rattle.text.proofs.Writing.{Left, left-all, left-none}
-use Rattle.codes.specs.Bytes.{byteAt}
+use Rattle.code_bytes.specs.Bytes.{byteAt}
 use Rattle.comparison_bytes.specs.Changes.{changesText}
 use Rattle.comparison_bytes.proofs.ByteLines.{change-put, no-change}
 use borrow.Author.Needs.{needs}

@@ -2,7 +2,7 @@
 use mathlib.Core.Path.{_≡_, refl}
 use Prim.Native.Nat.{_-_, _≤_}
 use lib.ListN.{length, drop}
-use Rattle.codes.specs.Bytes.{byteAt}
+use Rattle.code_bytes.specs.Bytes.{byteAt}
 use Rattle.comparison_bytes.specs.Changes.{sameBytes}
 use Rattle.comparison_bytes.proofs.ByteLines.{same-more, same-not, same-all}
 use borrow.Author.Needs.{needs}

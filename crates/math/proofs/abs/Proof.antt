@@ -1,5 +1,5 @@
 -- `abs` is `absOf`: a NaN is one still, and any other float has its bits without the sign. Assumes nothing.
-use mathlib.Core.Path.{_≡_, sym, subst}
+use mathlib.Core.Path.{sym, subst}
 use mathlib.Core.Bool.{true, false}
 use lib.Dec.{T}
 use lib.Ieee.{binary32, fits}

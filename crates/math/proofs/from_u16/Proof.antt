@@ -1,7 +1,7 @@
 -- `from_u16` is the number itself. Assumes nothing.
 use native.Mathlib.Omega.{arith}
 use borrow.Author.Needs.{needs}
-use Rattle.math.proofs.Logarithm.{number-bits}
+use Rattle.math.proofs.Nan.{number-bits}
 use Rattle.math.proofs.Digits.{from-digits}
 use Rattle.math.proofs.from_u16.Statement.{statement}
 use Rattle.math.proofs.from_u16.Tie as tie

@@ -8,7 +8,7 @@ use lib.Dec.{eqb}
 use lib.ListN.{length}
 use Rattle.text.specs.Text.{Puts}
 use Rattle.text.proofs.Writing.{_⨾_, puts-none}
-use Rattle.codes.specs.Bytes.{blockLength}
+use Rattle.code_bytes.specs.Bytes.{blockLength}
 use Rattle.page_panels.specs.Panels.{panelsText}
 use Rattle.page_panels.proofs.put_panels.Statement.{statement}
 use Rattle.page_panels.proofs.put_panels.Tie as tie

@@ -3,7 +3,7 @@ use mathlib.Core.Path.{_≡_}
 use Prim.Native.Nat.{_-_, _≤_}
 use lib.ListN.{length}
 use Rattle.text.specs.Text.{Puts}
-use Rattle.codes.specs.Bytes.{byteAt}
+use Rattle.code_bytes.specs.Bytes.{byteAt}
 use Rattle.parameters_page.specs.ParametersPage.{rowsText}
 use Rattle.parameters_page.proofs.ByteRows.{no-row, row-more, all-rows}
 use borrow.Author.Needs.{needs}

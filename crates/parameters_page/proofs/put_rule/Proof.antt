@@ -4,7 +4,7 @@ use mathlib.Core.List.{[]}
 use Prim.Native.Nat.{ℕ, _≤_, _<_}
 use borrow.Author.Tests.{lt-ltb, le-ltb}
 use Rattle.text.specs.Text.{ascii}
-use Rattle.text.specs.Words.{indexOf}
+use Rattle.words.specs.Words.{indexOf}
 use Rattle.text.proofs.Writing.{puts-as, puts-none}
 use Rattle.parameters_page.specs.ParametersPage.{groups, ruleText}
 use borrow.Author.Needs.{needs}

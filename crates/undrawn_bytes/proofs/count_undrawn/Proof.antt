@@ -1,7 +1,7 @@
 -- `count_undrawn` is `undrawnCount`. The loop's invariant: those of the first bytes are counted. Assumes nothing.
 use mathlib.Core.Path.{_≡_}
 use Prim.Native.Nat.{_-_, _≤_}
-use Rattle.codes.specs.Bytes.{byteAt}
+use Rattle.code_bytes.specs.Bytes.{byteAt}
 use Rattle.undrawn_bytes.specs.Undrawn.{undrawnCount}
 use Rattle.undrawn_bytes.proofs.ByteLines.{none-counted, count-more, all-counted}
 use borrow.Author.Needs.{needs}

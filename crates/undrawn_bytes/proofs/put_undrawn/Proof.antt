@@ -3,7 +3,7 @@ use mathlib.Core.Path.{_≡_}
 use Prim.Native.Nat.{_-_, _≤_}
 use lib.ListN.{length}
 use Rattle.text.specs.Text.{Puts}
-use Rattle.codes.specs.Bytes.{byteAt}
+use Rattle.code_bytes.specs.Bytes.{byteAt}
 use Rattle.undrawn_bytes.specs.Undrawn.{undrawnText}
 use Rattle.undrawn_bytes.proofs.ByteLines.{no-line, line-more, all-lines}
 use borrow.Author.Needs.{needs}

@@ -1,0 +1,2 @@
+-- The bytes that each code reads.
+pub mod Bytes

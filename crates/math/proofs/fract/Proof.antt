@@ -1,9 +1,0 @@
--- `fract` is `fractOf`. Assumes nothing.
-use Rattle.math.specs.Formulas.{fractOf}
-use borrow.Author.Needs.{needs}
-use Rattle.math.proofs.fract.Statement.{statement}
-use Rattle.math.proofs.fract.Tie as tie
-
-pub fract-spec : {M : Type 1} → statement M
-unfolding fractOf
-fract-spec = tie.close (tie.spec (λ c κs. search needs) (λ c. simp (c .floor .ensures)))

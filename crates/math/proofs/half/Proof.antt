@@ -1,8 +1,0 @@
--- `half` is `halfOf`. Assumes nothing.
-use Rattle.math.specs.Formulas.{halfOf}
-use Rattle.math.proofs.half.Statement.{statement}
-use Rattle.math.proofs.half.Tie as tie
-
-pub half-spec : {M : Type 1} → statement M
-unfolding halfOf
-half-spec = tie.close (tie.spec (λ c. simp (c .if1 .taken)) (λ c. simp (c .if1 .left)))

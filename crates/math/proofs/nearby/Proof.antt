@@ -1,6 +1,0 @@
--- `nearby` is what its contract says. Assumes nothing.
-use Rattle.math.proofs.nearby.Statement.{statement}
-use Rattle.math.proofs.nearby.Tie as tie
-
-pub nearby-spec : {M : Type 1} → statement M
-nearby-spec = tie.close (tie.spec (λ c. simp (c .if1 .taken)) (λ c. simp (c .if1 .left)))

@@ -1,0 +1,2 @@
+-- The laws of words in a row.
+pub mod Words

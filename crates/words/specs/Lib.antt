@@ -1,0 +1,2 @@
+-- One of some words.
+pub mod Words
