@@ -1,18 +1,17 @@
-// A program's sheet as one page of SVG, A4 landscape: the name, a panel for each generator, the arpeggio's gates.
+// A program's sheet as one page of SVG, A4 landscape: the name, a panel for each generator, the arpeggio's gates; and the page of two programs held against each other.
 ghost use mathlib.Core.Path.{_≡_};
 ghost use lib.ListN.{length};
 ghost use Rattle.text.specs.Text.{Puts};
 ghost use Rattle.codes.specs.Bytes.{blockLength};
-ghost use Rattle.page.specs.Page.{styleText, nameText, headText, fileText, footText, pageOf, pageText};
+ghost use Rattle.page.specs.Page.{styleText, nameText, headText, comparedTitle, sideText, comparedHead, fileText, footText, bodyText, pageOf, comparisonOf, pageText, comparisonText};
 use block::BLOCK;
-use codes::GATE_TIME;
 use page_panels::put_arpeggio;
 use page_panels::put_panels;
 use program_name::put_name_in_xml;
 use text::put;
 use text::put_escaped_all;
 
-// ---- head and foot
+// ---- head
 fn put_style(out: &mut [u8], at: usize) -> usize
     ensures { λ r. ⌜ Puts (now (out .entry)) at styleText (now (out .exit)) r ⌝ }
 {
@@ -53,6 +52,58 @@ fn put_head(out: &mut [u8], at: usize, file: &[u8], block: &[u8]) -> usize
     )
 }
 
+// ---- the head of a comparison
+fn put_compared_title(out: &mut [u8], at: usize, oldfile: &[u8], older: &[u8], file: &[u8], block: &[u8]) -> usize
+    requires { ⌜ (length (now older) ≡ blockLength) × (length (now block) ≡ blockLength) ⌝ }
+    ensures { λ r. ⌜ Puts (now (out .entry)) at (comparedTitle (now (oldfile .entry)) (now (older .entry)) (now (file .entry)) (now (block .entry))) (now (out .exit)) r ⌝ }
+{
+    let mut next = put(out, at, b"<title>Comparison of ");
+    next = put_name(out, next, oldfile, older);
+    next = put(out, next, b" and ");
+    next = put_name(out, next, file, block);
+    put(
+        out,
+        next,
+        b"</title>\n<style>.w{font-size:200px;fill:#555}.s{font-size:240px}.s .b{font-size:280px}.n .h{font-weight:normal}</style>\n",
+    )
+}
+
+// One of the two programs.
+fn put_side(out: &mut [u8], at: usize, file: &[u8], block: &[u8]) -> usize
+    requires { ⌜ length (now block) ≡ blockLength ⌝ }
+    ensures { λ r. ⌜ Puts (now (out .entry)) at (sideText (now (file .entry)) (now (block .entry))) (now (out .exit)) r ⌝ }
+{
+    let mut next = put_name(out, at, file, block);
+    next = put(out, next, b"<tspan class='h' dx='400'>File ");
+    next = put_escaped_all(out, next, file);
+    put(out, next, b"</tspan></text>")
+}
+
+fn put_compared_head(out: &mut [u8], at: usize, oldfile: &[u8], older: &[u8], file: &[u8], block: &[u8]) -> usize
+    requires { ⌜ (length (now older) ≡ blockLength) × (length (now block) ≡ blockLength) ⌝ }
+    ensures { λ r. ⌜ Puts (now (out .entry)) at (comparedHead (now (oldfile .entry)) (now (older .entry)) (now (file .entry)) (now (block .entry))) (now (out .exit)) r ⌝ }
+{
+    let mut next = put_compared_title(out, at, oldfile, older, file, block);
+    next = put(
+        out,
+        next,
+        b"<text class='h' x='1150' y='950'>DeepMind 12 comparison</text><text class='h' x='5700' y='950'>old</text><text class='n' x='6500' y='950'>",
+    );
+    next = put_side(out, next, oldfile, older);
+    next = put(
+        out,
+        next,
+        b"<text class='h' x='5700' y='1560'>new</text><text class='n' x='6500' y='1560'>",
+    );
+    next = put_side(out, next, file, block);
+    put(
+        out,
+        next,
+        b"<path class='f' d='M1150 1750H28550'/><path class='u' d='M1150 1960H1750'/><text x='1850' y='2030'>grey: the old program, where its curve or gate differs. <tspan class='w'>was</tspan> in small: its byte, where that differs.</text>\n",
+    )
+}
+
+// ---- foot
 fn put_file(out: &mut [u8], at: usize, file: &[u8]) -> usize
     ensures { λ r. ⌜ Puts (now (out .entry)) at (fileText (now (file .entry))) (now (out .exit)) r ⌝ }
 {
@@ -80,24 +131,52 @@ fn put_foot(out: &mut [u8], at: usize, file: &[u8]) -> usize
 }
 
 // ---- the whole
-fn put_page(out: &mut [u8], file: &[u8], older: &[u8], block: &[u8]) -> usize
-    requires { ⌜ length (now block) ≡ blockLength ⌝ }
-    ensures { λ r. ⌜ Puts (now (out .entry)) 0 (pageOf (now (file .entry)) (now (older .entry)) (now (block .entry))) (now (out .exit)) r ⌝ }
+fn put_body(out: &mut [u8], at: usize, file: &[u8], older: &[u8], block: &[u8]) -> usize
+    requires { ⌜ (length (now older) ≡ blockLength) × (length (now block) ≡ blockLength) ⌝ }
+    ensures { λ r. ⌜ Puts (now (out .entry)) at (bodyText (now (file .entry)) (now (older .entry)) (now (block .entry))) (now (out .exit)) r ⌝ }
 {
-    let mut next = put_style(out, 0);
-    next = put_head(out, next, file, block);
-    next = put_panels(out, next, older, block);
-    next = put_arpeggio(out, next, block[GATE_TIME]);
+    let mut next = put_panels(out, at, older, block);
+    next = put_arpeggio(out, next, older, block);
     put_foot(out, next, file)
 }
 
-// Writes a block's page from the buffer's start on, and answers where it ends. `file` is the name of the block's file. Where `older` is a block too, its curves lie beneath.
-// A block of another length writes nothing.
-pub fn page(file: &[u8], older: &[u8], block: &[u8], out: &mut [u8]) -> usize
-    ensures { λ r. ⌜ Puts (now (out .entry)) 0 (pageText (now (file .entry)) (now (older .entry)) (now (block .entry))) (now (out .exit)) r ⌝ }
+fn put_page(out: &mut [u8], file: &[u8], block: &[u8]) -> usize
+    requires { ⌜ length (now block) ≡ blockLength ⌝ }
+    ensures { λ r. ⌜ Puts (now (out .entry)) 0 (pageOf (now (file .entry)) (now (block .entry))) (now (out .exit)) r ⌝ }
+{
+    let mut next = put_style(out, 0);
+    next = put_head(out, next, file, block);
+    put_body(out, next, file, block, block)
+}
+
+fn put_comparison(out: &mut [u8], oldfile: &[u8], older: &[u8], file: &[u8], block: &[u8]) -> usize
+    requires { ⌜ (length (now older) ≡ blockLength) × (length (now block) ≡ blockLength) ⌝ }
+    ensures { λ r. ⌜ Puts (now (out .entry)) 0 (comparisonOf (now (oldfile .entry)) (now (older .entry)) (now (file .entry)) (now (block .entry))) (now (out .exit)) r ⌝ }
+{
+    let mut next = put_style(out, 0);
+    next = put_compared_head(out, next, oldfile, older, file, block);
+    put_body(out, next, file, older, block)
+}
+
+// Writes a block's page from the buffer's start on, and answers where it ends. `file` is the name of the block's file. A block of another length writes nothing.
+pub fn page(file: &[u8], block: &[u8], out: &mut [u8]) -> usize
+    ensures { λ r. ⌜ Puts (now (out .entry)) 0 (pageText (now (file .entry)) (now (block .entry))) (now (out .exit)) r ⌝ }
 {
     if block.len() != BLOCK {
         return 0;
     }
-    put_page(out, file, older, block)
+    put_page(out, file, block)
+}
+
+// The same of a block beside an older one: what differs is drawn in grey beneath, and says what it was. A block of another length, old or new, writes nothing.
+pub fn comparison(oldfile: &[u8], older: &[u8], file: &[u8], block: &[u8], out: &mut [u8]) -> usize
+    ensures { λ r. ⌜ Puts (now (out .entry)) 0 (comparisonText (now (oldfile .entry)) (now (older .entry)) (now (file .entry)) (now (block .entry))) (now (out .exit)) r ⌝ }
+{
+    if older.len() != BLOCK {
+        return 0;
+    }
+    if block.len() != BLOCK {
+        return 0;
+    }
+    put_comparison(out, oldfile, older, file, block)
 }
