@@ -59,13 +59,18 @@ deliver() {
     part=
 }
 
-# Makes the page of what was gathered. It has the name of the block's file, without its folder; without a block there is none.
-page() { # BLOCK or ''
-    case $1 in
-    '') run sheet "$scratch/blocks" '</svg>' ;;
-    -) run sheet "$scratch/blocks" '</svg>' 'standard input' ;;
-    *) run sheet "$scratch/blocks" '</svg>' "${1##*/}" ;;
-    esac
+# Makes the page of what was gathered. It has the name of the block's file, and of the old block's where there is one; without a block there is none.
+page() { # BLOCK or '' [OLD]
+    leaf "$1"
+    new=$leaf
+    leaf "${2-}"
+    run sheet "$scratch/blocks" '</svg>' "$new" "$leaf"
+}
+
+# Sets `leaf` to the name of a block's file, without its folder.
+leaf() { # BLOCK or ''
+    leaf=${1##*/}
+    [ "$1" != - ] || leaf='standard input'
 }
 
 # Runs a program. It has no exit status of its own: its text is whole where the last line has a mark.

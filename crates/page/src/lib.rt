@@ -53,7 +53,14 @@ fn put_head(out: &mut [u8], at: usize, file: &[u8], block: &[u8]) -> usize
 }
 
 // ---- the head of a comparison
-fn put_compared_title(out: &mut [u8], at: usize, oldfile: &[u8], older: &[u8], file: &[u8], block: &[u8]) -> usize
+fn put_compared_title(
+    out: &mut [u8],
+    at: usize,
+    oldfile: &[u8],
+    older: &[u8],
+    file: &[u8],
+    block: &[u8],
+) -> usize
     requires { ⌜ (length (now older) ≡ blockLength) × (length (now block) ≡ blockLength) ⌝ }
     ensures { λ r. ⌜ Puts (now (out .entry)) at (comparedTitle (now (oldfile .entry)) (now (older .entry)) (now (file .entry)) (now (block .entry))) (now (out .exit)) r ⌝ }
 {
@@ -79,7 +86,14 @@ fn put_side(out: &mut [u8], at: usize, file: &[u8], block: &[u8]) -> usize
     put(out, next, b"</tspan></text>")
 }
 
-fn put_compared_head(out: &mut [u8], at: usize, oldfile: &[u8], older: &[u8], file: &[u8], block: &[u8]) -> usize
+fn put_compared_head(
+    out: &mut [u8],
+    at: usize,
+    oldfile: &[u8],
+    older: &[u8],
+    file: &[u8],
+    block: &[u8],
+) -> usize
     requires { ⌜ (length (now older) ≡ blockLength) × (length (now block) ≡ blockLength) ⌝ }
     ensures { λ r. ⌜ Puts (now (out .entry)) at (comparedHead (now (oldfile .entry)) (now (older .entry)) (now (file .entry)) (now (block .entry))) (now (out .exit)) r ⌝ }
 {

@@ -17,16 +17,16 @@ module _ (old new : List Float) (a b : ℕ) where
   unfolding samePoints
   point-same zero h ea eb e = absurd (omega arith)
   point-same (suc k) h ea eb e =
-    let q : heightUnits (getD old k nan) ≡ heightUnits (getD new k nan) = rw (before k) at (sym ea ∙ e ∙ eb) in
-    rw (before k) (simp (eq-eqb _ _ q))
+      let q : heightUnits (getD old k nan) ≡ heightUnits (getD new k nan) = rw (before k) at (sym ea ∙ e ∙ eb) in
+      rw (before k) (simp (eq-eqb _ _ q))
 
   pub point-other : (k : ℕ) → 0 < k → a ≡ heightUnits (getD old (k - 1) nan) → b ≡ heightUnits (getD new (k - 1) nan) → (a ≡ b → ⊥) → samePoints old new k ≡ false
   unfolding samePoints
   point-other zero h ea eb e = absurd (omega arith)
   point-other (suc k) h ea eb e =
-    let fa : a ≡ heightUnits (getD old k nan) = rw (before k) at ea in
-    let fb : b ≡ heightUnits (getD new k nan) = rw (before k) at eb in
-    simp (ne-eqb _ _ (λ q. e (fa ∙ q ∙ sym fb)))
+      let fa : a ≡ heightUnits (getD old k nan) = rw (before k) at ea in
+      let fb : b ≡ heightUnits (getD new k nan) = rw (before k) at eb in
+      simp (ne-eqb _ _ (λ q. e (fa ∙ q ∙ sym fb)))
 
 pub no-points : (old new : List Float) (k : ℕ) → k ≤ 0 → samePoints old new k ≡ true
 unfolding samePoints

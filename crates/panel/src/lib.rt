@@ -140,7 +140,12 @@ fn same_points(old: &[f32; SAMPLES], new: &[f32; SAMPLES]) -> bool
 }
 
 // The older curve lies beneath, where it differs.
-pub fn put_older_curve(out: &mut [u8], at: usize, old: &[f32; SAMPLES], new: &[f32; SAMPLES]) -> usize
+pub fn put_older_curve(
+    out: &mut [u8],
+    at: usize,
+    old: &[f32; SAMPLES],
+    new: &[f32; SAMPLES],
+) -> usize
     ensures { λ r. ⌜ Puts (now (out .entry)) at (olderCurveText (now (old .entry)) (now (new .entry))) (now (out .exit)) r ⌝ }
 {
     if same_points(old, new) {

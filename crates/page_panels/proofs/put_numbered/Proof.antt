@@ -1,7 +1,7 @@
 -- `put_numbered` writes `panelText`. Assumes nothing.
 use Rattle.text.proofs.Writing.{puts-none}
 use mathlib.Core.Path.{sym}
-use Rattle.page_panels.specs.Panels.{codePanel,panelText}
+use Rattle.page_panels.specs.Panels.{codePanel, panelText}
 use borrow.Author.Needs.{needs}
 use Rattle.page_panels.proofs.put_numbered.Statement.{statement}
 use Rattle.page_panels.proofs.put_numbered.Tie as tie
