@@ -44,7 +44,7 @@ comparedHead oldFile older file block =
     comparedTitle oldFile older file block ++
     ascii "<text class='h' x='1150' y='950'>DeepMind 12 comparison</text><text class='h' x='5700' y='950'>old</text><text class='n' x='6500' y='950'>" ++ sideText oldFile older ++
     ascii "<text class='h' x='5700' y='1560'>new</text><text class='n' x='6500' y='1560'>" ++ sideText file block ++
-    ascii "<path class='f' d='M1150 1750H28550'/><path class='u' d='M1150 1960H1750'/><text x='1850' y='2030'>grey: the old program, where its curve or gate differs. <tspan class='w'>was</tspan> in small: its byte, where that differs.</text>\n"
+    ascii "<path class='f' d='M1150 1750H28550'/><path class='u' d='M1150 1960H1750'/><text x='1850' y='2030'>grey: the old program, where its curve or gate differs. <tspan class='w'>was</tspan> in small: its byte, where that differs. Bytes that are not on this page may differ too: juvrada compare lists them.</text>\n"
 
 -- ---- foot
 -- Which file the block is from.

@@ -113,7 +113,7 @@ fn put_compared_head(
     put(
         out,
         next,
-        b"<path class='f' d='M1150 1750H28550'/><path class='u' d='M1150 1960H1750'/><text x='1850' y='2030'>grey: the old program, where its curve or gate differs. <tspan class='w'>was</tspan> in small: its byte, where that differs.</text>\n",
+        b"<path class='f' d='M1150 1750H28550'/><path class='u' d='M1150 1960H1750'/><text x='1850' y='2030'>grey: the old program, where its curve or gate differs. <tspan class='w'>was</tspan> in small: its byte, where that differs. Bytes that are not on this page may differ too: juvrada compare lists them.</text>\n",
     )
 }
 
