@@ -59,13 +59,18 @@ deliver() {
     part=
 }
 
-# Makes a page of what was gathered, by its program. It has the name of the block's file, without its folder; without a block there is none.
-page() { # PROGRAM, BLOCK or ''
-    case $2 in
-    '') run "$1" "$scratch/blocks" '</svg>' ;;
-    -) run "$1" "$scratch/blocks" '</svg>' 'standard input' ;;
-    *) run "$1" "$scratch/blocks" '</svg>' "${2##*/}" ;;
-    esac
+# Makes a page of what was gathered, by its program. It has the name of the block's file, and of the old block's where there is one; without a block there is none.
+page() { # PROGRAM, BLOCK or '' [OLD]
+    leaf "$2"
+    new=$leaf
+    leaf "${3-}"
+    run "$1" "$scratch/blocks" '</svg>' "$new" "$leaf"
+}
+
+# Sets `leaf` to the name of a block's file, without its folder.
+leaf() { # BLOCK or ''
+    leaf=${1##*/}
+    [ "$1" != - ] || leaf='standard input'
 }
 
 # Runs a program. It has no exit status of its own: its text is whole where the last line has a mark.

@@ -14,11 +14,7 @@ use text::put;
 fn byte_at(block: &[u8], n: u8) -> u8
     ensures { λ r. ⌜ r ≡ byteAt (now (block .entry)) n ⌝ }
 {
-    let i = n as usize;
-    if i < block.len() {
-        return block[i];
-    }
-    0
+    code_bytes::byte_at(block, n as usize)
 }
 
 // Whether two blocks have the same bytes of those numbers.

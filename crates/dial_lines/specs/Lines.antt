@@ -1,9 +1,12 @@
--- A LINE THAT SAYS WHAT TO DIAL IN: docs/SPECIFICATION.md, "The page". It has a dial's name, its byte in decimal, and a note. Definitions only.
-use mathlib.Core.List.{List, _++_}
+-- A LINE THAT SAYS WHAT TO DIAL IN: docs/SPECIFICATION.md, "The page". It has a dial's name, its byte in decimal, and a note. `b` is the byte, and `was` what it was in the older program;
+-- where there is no older program the two are the same byte. Definitions only.
+use mathlib.Core.Bool.{cond}
+use mathlib.Core.List.{List, [], _++_}
 use Prim.Native.Nat.{ℕ}
+use lib.Dec.{eqb}
 use Rattle.text.specs.Text.{ascii}
 use Rattle.numerals.specs.Spelled.{decimalOf}
-use Rattle.labels.specs.Notes.{shapeNote, polesNote, sourceNote, depthNote}
+use Rattle.labels.specs.Notes.{switchNote, shapeNote, polesNote, sourceNote, depthNote}
 
 -- How far below the frame the four lines are, in hundredths of a millimetre.
 abbrev pub lineOne : ℕ
@@ -18,39 +21,54 @@ lineThree = 1940
 abbrev pub lineFour : ℕ
 lineFour = 2260
 
--- The start of the line at y: the name, the byte in bold, and the place of the note.
-unfoldable pub dialStart : ℕ → List ℕ → ℕ → List ℕ
-dialStart y name b =
-    ascii "<text class='d' y='" ++ decimalOf y ++ ascii "'>" ++ name ++ ascii "<tspan class='b' x='2000'>" ++ decimalOf b ++ ascii "</tspan><tspan x='2750'>"
+-- What the byte was, in small, after a byte that differs; after one that does not, nothing.
+unfoldable pub wasText : ℕ → ℕ → List ℕ
+wasText was b = cond (eqb was b) [] (ascii "<tspan class='w' dx='50'>was " ++ decimalOf was ++ ascii "</tspan>")
+
+-- The start of the note. Beside a byte that differs it makes room for what the byte was: it stands further to the right, and is smaller.
+unfoldable pub noteStart : ℕ → ℕ → List ℕ
+noteStart was b = cond (eqb was b) (ascii "<tspan x='2750'>") (ascii "<tspan class='s' x='3380'>")
+
+-- The name in the line at y, and the place of the byte, which is bold.
+unfoldable pub nameStart : ℕ → List ℕ → List ℕ
+nameStart y name = ascii "<text class='d' y='" ++ decimalOf y ++ ascii "'>" ++ name ++ ascii "<tspan class='b' x='2000'>"
+
+-- The start of the line at y: the name, the byte, what it was, and the place of the note.
+unfoldable pub dialStart : ℕ → List ℕ → ℕ → ℕ → List ℕ
+dialStart y name was b = nameStart y name ++ decimalOf b ++ ascii "</tspan>" ++ wasText was b ++ noteStart was b
 
 abbrev pub dialEnd : List ℕ
 dialEnd = ascii "</tspan></text>"
 
 -- A line with a note.
-unfoldable pub dialText : ℕ → List ℕ → ℕ → List ℕ → List ℕ
-dialText y name b note = dialStart y name b ++ note ++ dialEnd
+unfoldable pub dialText : ℕ → List ℕ → ℕ → ℕ → List ℕ → List ℕ
+dialText y name was b note = dialStart y name was b ++ note ++ dialEnd
 
 -- A line without one.
-unfoldable pub plainDial : ℕ → List ℕ → ℕ → List ℕ
-plainDial y name b = dialStart y name b ++ dialEnd
+unfoldable pub plainDial : ℕ → List ℕ → ℕ → ℕ → List ℕ
+plainDial y name was b = dialStart y name was b ++ dialEnd
 
--- A time or level of an envelope, with its curve for a note: the curve's byte is to be dialled in too, so it is bold.
-unfoldable pub curvedDial : ℕ → List ℕ → ℕ → ℕ → List ℕ
-curvedDial y name b curve = dialStart y name b ++ ascii "curve <tspan class='b'>" ++ decimalOf curve ++ ascii "</tspan></tspan></text>"
+-- A time or level of an envelope, with its curve for a note: the curve's byte is to be dialled in too, so it is bold, and says what it was.
+unfoldable pub curvedDial : ℕ → List ℕ → ℕ → ℕ → ℕ → ℕ → List ℕ
+curvedDial y name was b curveWas curve =
+    dialStart y name was b ++ ascii "curve <tspan class='b'>" ++ decimalOf curve ++ ascii "</tspan>" ++ wasText curveWas curve ++ dialEnd
 
-abbrev pub shapeDial : ℕ → List ℕ
-shapeDial b = dialText lineOne (ascii "Shape") b (shapeNote b)
+abbrev pub switchDial : ℕ → List ℕ → ℕ → ℕ → List ℕ
+switchDial y name was b = dialText y name was b (switchNote b)
 
-abbrev pub polesDial : ℕ → List ℕ
-polesDial b = dialText lineTwo (ascii "Pole mode") b (polesNote b)
+abbrev pub shapeDial : ℕ → ℕ → List ℕ
+shapeDial was b = dialText lineOne (ascii "Shape") was b (shapeNote b)
 
-abbrev pub sourceDial : ℕ → List ℕ
-sourceDial b = dialText lineThree (ascii "PWM source") b (sourceNote b)
+abbrev pub polesDial : ℕ → ℕ → List ℕ
+polesDial was b = dialText lineTwo (ascii "Pole mode") was b (polesNote b)
+
+abbrev pub sourceDial : ℕ → ℕ → List ℕ
+sourceDial was b = dialText lineThree (ascii "PWM source") was b (sourceNote b)
 
 -- The depth, whose note depends on the source.
-abbrev pub depthDial : ℕ → ℕ → List ℕ
-depthDial b source = dialText lineFour (ascii "PWM depth") b (depthNote source)
+abbrev pub depthDial : ℕ → ℕ → ℕ → List ℕ
+depthDial was b source = dialText lineFour (ascii "PWM depth") was b (depthNote source)
 
 -- The only dial of a generator.
-abbrev pub onlyDial : List ℕ → ℕ → List ℕ
-onlyDial name b = plainDial lineOne name b
+abbrev pub onlyDial : List ℕ → ℕ → ℕ → List ℕ
+onlyDial name was b = plainDial lineOne name was b

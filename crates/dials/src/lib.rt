@@ -1,7 +1,5 @@
-// The lines of a panel that say what to dial in, for each generator.
-ghost use mathlib.Core.Path.{_≡_};
+// The lines of a panel that say what to dial in, for each generator: what differs from an older block says what it was. Without an older program both are the same block.
 ghost use Prim.Native.Nat.{_+_, _<_};
-ghost use lib.ListN.{length};
 ghost use Rattle.text.specs.Text.{Puts};
 ghost use Rattle.code_bytes.specs.Bytes.{byteAt, blockLength, slewPlace, releaseCurvePlace};
 ghost use Rattle.dials.specs.Dials.{envelopeDials, lfoDials, lfoOtherDials, lowPassDials, oscillatorDials, dialsOf};
@@ -43,107 +41,114 @@ const ARP_SYNC: usize = 4;
 
 const MONO_MODE: usize = 5;
 
-fn envelope_dials(out: &mut [u8], at: usize, block: &[u8], from: usize) -> usize
+fn envelope_dials(out: &mut [u8], at: usize, older: &[u8], block: &[u8], from: usize) -> usize
     requires { ⌜ from + releaseCurvePlace < blockLength ⌝ }
-    requires { ⌜ length (now block) ≡ blockLength ⌝ }
-    ensures { λ r. ⌜ Puts (now (out .entry)) at (envelopeDials (byteAt (now (block .entry))) from) (now (out .exit)) r ⌝ }
+    ensures { λ r. ⌜ Puts (now (out .entry)) at (envelopeDials (byteAt (now (older .entry))) (byteAt (now (block .entry))) from) (now (out .exit)) r ⌝ }
 {
     let mut next = put_curved(
         out,
         at,
         1300,
         b"Attack",
-        block[from],
-        block[from + ATTACK_CURVE],
+        older,
+        block,
+        from,
+        from + ATTACK_CURVE,
     );
     next = put_curved(
         out,
         next,
         1620,
         b"Decay",
-        block[from + DECAY],
-        block[from + DECAY_CURVE],
+        older,
+        block,
+        from + DECAY,
+        from + DECAY_CURVE,
     );
     next = put_curved(
         out,
         next,
         1940,
         b"Sustain",
-        block[from + SUSTAIN],
-        block[from + SUSTAIN_CURVE],
+        older,
+        block,
+        from + SUSTAIN,
+        from + SUSTAIN_CURVE,
     );
     put_curved(
         out,
         next,
         2260,
         b"Release",
-        block[from + RELEASE],
-        block[from + RELEASE_CURVE],
+        older,
+        block,
+        from + RELEASE,
+        from + RELEASE_CURVE,
     )
 }
 
-fn lfo_dials(out: &mut [u8], at: usize, block: &[u8], from: usize) -> usize
+fn lfo_dials(out: &mut [u8], at: usize, older: &[u8], block: &[u8], from: usize) -> usize
     requires { ⌜ from + slewPlace < blockLength ⌝ }
-    requires { ⌜ length (now block) ≡ blockLength ⌝ }
-    ensures { λ r. ⌜ Puts (now (out .entry)) at (lfoDials (byteAt (now (block .entry))) from) (now (out .exit)) r ⌝ }
+    ensures { λ r. ⌜ Puts (now (out .entry)) at (lfoDials (byteAt (now (older .entry))) (byteAt (now (block .entry))) from) (now (out .exit)) r ⌝ }
 {
-    let mut next = put_shape(out, at, block[from + SHAPE]);
-    next = put_plain(out, next, 1620, b"Slew rate", block[from + SLEW]);
-    put_switch(out, next, 1940, b"Key sync", block[from + KEY_SYNC])
+    let mut next = put_shape(out, at, older, block, from + SHAPE);
+    next = put_plain(out, next, 1620, b"Slew rate", older, block, from + SLEW);
+    put_switch(out, next, 1940, b"Key sync", older, block, from + KEY_SYNC)
 }
 
 // The bytes of an LFO that no curve draws.
-fn lfo_other_dials(out: &mut [u8], at: usize, block: &[u8], from: usize) -> usize
+fn lfo_other_dials(out: &mut [u8], at: usize, older: &[u8], block: &[u8], from: usize) -> usize
     requires { ⌜ from + slewPlace < blockLength ⌝ }
-    requires { ⌜ length (now block) ≡ blockLength ⌝ }
-    ensures { λ r. ⌜ Puts (now (out .entry)) at (lfoOtherDials (byteAt (now (block .entry))) from) (now (out .exit)) r ⌝ }
+    ensures { λ r. ⌜ Puts (now (out .entry)) at (lfoOtherDials (byteAt (now (older .entry))) (byteAt (now (block .entry))) from) (now (out .exit)) r ⌝ }
 {
-    let mut next = put_plain(out, at, 1300, b"Rate", block[from]);
-    next = put_switch(out, next, 1620, b"Arp sync", block[from + ARP_SYNC]);
-    put_plain(out, next, 1940, b"Mono mode", block[from + MONO_MODE])
+    let mut next = put_plain(out, at, 1300, b"Rate", older, block, from);
+    next = put_switch(out, next, 1620, b"Arp sync", older, block, from + ARP_SYNC);
+    put_plain(
+        out,
+        next,
+        1940,
+        b"Mono mode",
+        older,
+        block,
+        from + MONO_MODE,
+    )
 }
 
-fn low_pass_dials(out: &mut [u8], at: usize, block: &[u8]) -> usize
-    requires { ⌜ length (now block) ≡ blockLength ⌝ }
-    ensures { λ r. ⌜ Puts (now (out .entry)) at (lowPassDials (byteAt (now (block .entry)))) (now (out .exit)) r ⌝ }
+fn low_pass_dials(out: &mut [u8], at: usize, older: &[u8], block: &[u8]) -> usize
+    ensures { λ r. ⌜ Puts (now (out .entry)) at (lowPassDials (byteAt (now (older .entry))) (byteAt (now (block .entry)))) (now (out .exit)) r ⌝ }
 {
-    let next = put_plain(out, at, 1300, b"Resonance", block[RESONANCE]);
-    put_poles(out, next, block[POLE])
+    let next = put_plain(out, at, 1300, b"Resonance", older, block, RESONANCE);
+    put_poles(out, next, older, block, POLE)
 }
 
-fn oscillator_dials(out: &mut [u8], at: usize, block: &[u8]) -> usize
-    requires { ⌜ length (now block) ≡ blockLength ⌝ }
-    ensures { λ r. ⌜ Puts (now (out .entry)) at (oscillatorDials (byteAt (now (block .entry)))) (now (out .exit)) r ⌝ }
+fn oscillator_dials(out: &mut [u8], at: usize, older: &[u8], block: &[u8]) -> usize
+    ensures { λ r. ⌜ Puts (now (out .entry)) at (oscillatorDials (byteAt (now (older .entry))) (byteAt (now (block .entry)))) (now (out .exit)) r ⌝ }
 {
-    let mut next = put_switch(out, at, 1300, b"Saw", block[SAW]);
-    next = put_switch(out, next, 1620, b"Pulse", block[PULSE]);
-    next = put_source(out, next, block[SOURCE]);
-    put_depth(out, next, block[DEPTH], block[SOURCE])
+    let mut next = put_switch(out, at, 1300, b"Saw", older, block, SAW);
+    next = put_switch(out, next, 1620, b"Pulse", older, block, PULSE);
+    next = put_source(out, next, older, block, SOURCE);
+    put_depth(out, next, older, block, DEPTH, SOURCE)
 }
 
-// The lines of a code. The caller has tested the block's length.
-pub fn put_dials(out: &mut [u8], at: usize, block: &[u8], code: Code) -> usize
-    requires { ⌜ length (now block) ≡ blockLength ⌝ }
-    ensures { λ r. ⌜ Puts (now (out .entry)) at (dialsOf code (byteAt (now (block .entry)))) (now (out .exit)) r ⌝ }
+// The lines of a code.
+pub fn put_dials(out: &mut [u8], at: usize, older: &[u8], block: &[u8], code: Code) -> usize
+    ensures { λ r. ⌜ Puts (now (out .entry)) at (dialsOf code (byteAt (now (older .entry))) (byteAt (now (block .entry)))) (now (out .exit)) r ⌝ }
 {
     match code {
-        Code::Envelope(id) => envelope_dials(out, at, block, envelope_first(id)),
-        Code::Lfo(id) => lfo_dials(out, at, block, lfo_first(id)),
-        Code::LfoUnipolar(id) => lfo_other_dials(out, at, block, lfo_first(id)),
-        Code::Fade(id) => {
-            let n = fade_byte(id);
-            put_dial(out, at, b"Fade time", block[n])
-        }
-        Code::LowPass => low_pass_dials(out, at, block),
+        Code::Envelope(id) => envelope_dials(out, at, older, block, envelope_first(id)),
+        Code::Lfo(id) => lfo_dials(out, at, older, block, lfo_first(id)),
+        Code::LfoUnipolar(id) => lfo_other_dials(out, at, older, block, lfo_first(id)),
+        Code::Fade(id) => put_dial(out, at, b"Fade time", older, block, fade_byte(id)),
+        Code::LowPass => low_pass_dials(out, at, older, block),
         Code::HighPass => put(
             out,
             at,
             b"<text class='d' y='1300'>6 dB an octave, fixed</text>",
         ),
         Code::Oscillator(id) => match id {
-            OscillatorId::One => oscillator_dials(out, at, block),
-            OscillatorId::Two => put_dial(out, at, b"Level", block[OSCILLATOR_TWO_LEVEL]),
+            OscillatorId::One => oscillator_dials(out, at, older, block),
+            OscillatorId::Two => put_dial(out, at, b"Level", older, block, OSCILLATOR_TWO_LEVEL),
         },
-        Code::Noise => put_dial(out, at, b"Level", block[NOISE_LEVEL]),
+        Code::Noise => put_dial(out, at, b"Level", older, block, NOISE_LEVEL),
     }
 }

@@ -1,18 +1,17 @@
-// A program's sheet as one page of SVG, A4 landscape: the name, a panel for each generator, the arpeggio's gates.
+// A program's sheet as one page of SVG, A4 landscape: the name, a panel for each generator, the arpeggio's gates; and the page of two programs held against each other.
 ghost use mathlib.Core.Path.{_≡_};
 ghost use lib.ListN.{length};
 ghost use Rattle.text.specs.Text.{Puts};
 ghost use Rattle.code_bytes.specs.Bytes.{blockLength};
-ghost use Rattle.page.specs.Page.{styleText, nameText, headText, footText, pageOf, pageText};
+ghost use Rattle.page.specs.Page.{styleText, headText, comparedTitle, sideText, comparedHead, footText, bodyText, pageOf, comparisonOf, pageText, comparisonText};
 use block::BLOCK;
-use code_bytes::GATE_TIME;
 use page_panels::put_arpeggio;
 use page_panels::put_panels;
-use program_name::put_name_in_xml;
 use provenance::put_file;
+use provenance::put_name;
 use text::put;
 
-// ---- head and foot
+// ---- head
 fn put_style(out: &mut [u8], at: usize) -> usize
     ensures { λ r. ⌜ Puts (now (out .entry)) at styleText (now (out .exit)) r ⌝ }
 {
@@ -21,17 +20,6 @@ fn put_style(out: &mut [u8], at: usize) -> usize
         at,
         b"<svg xmlns='http://www.w3.org/2000/svg' width='297mm' height='210mm' viewBox='0 0 29700 21000'>\n<style>@page{size:A4 landscape;margin:0}text{font:260px Helvetica,Arial,sans-serif}.h{font-size:360px}.n{font-size:560px;font-weight:bold}.t{font-size:360px;font-weight:bold}.d{font-size:280px}.b{font-weight:bold}.m{font-size:240px;text-anchor:middle}path,polyline{fill:none;stroke:#000}.f{stroke-width:15}.r{stroke-width:12;stroke-dasharray:80 60}.v{stroke-width:8}.c{stroke-width:32;stroke-linejoin:round}.u{stroke:#999;stroke-width:70;stroke-linejoin:round}.g{fill:#bbb;stroke-width:20}</style>\n<rect width='29700' height='21000' fill='#fff'/>\n",
     )
-}
-
-// The name, and what stands in its place where it has no character.
-fn put_name(out: &mut [u8], at: usize, file: &[u8], block: &[u8]) -> usize
-    requires { ⌜ length (now block) ≡ blockLength ⌝ }
-    ensures { λ r. ⌜ Puts (now (out .entry)) at (nameText (now (file .entry)) (now (block .entry))) (now (out .exit)) r ⌝ }
-{
-    if file.len() == 0 {
-        return put_name_in_xml(out, at, block, b"(empty program)");
-    }
-    put_name_in_xml(out, at, block, b"(no name)")
 }
 
 fn put_head(out: &mut [u8], at: usize, file: &[u8], block: &[u8]) -> usize
@@ -53,6 +41,72 @@ fn put_head(out: &mut [u8], at: usize, file: &[u8], block: &[u8]) -> usize
     )
 }
 
+// ---- the head of a comparison
+fn put_compared_title(
+    out: &mut [u8],
+    at: usize,
+    oldfile: &[u8],
+    older: &[u8],
+    file: &[u8],
+    block: &[u8],
+) -> usize
+    requires { ⌜ (length (now older) ≡ blockLength) × (length (now block) ≡ blockLength) ⌝ }
+    ensures { λ r. ⌜ Puts (now (out .entry)) at (comparedTitle (now (oldfile .entry)) (now (older .entry)) (now (file .entry)) (now (block .entry))) (now (out .exit)) r ⌝ }
+{
+    let mut next = put(out, at, b"<title>Comparison of ");
+    next = put_name(out, next, oldfile, older);
+    next = put(out, next, b" and ");
+    next = put_name(out, next, file, block);
+    put(
+        out,
+        next,
+        b"</title>\n<style>.w{font-size:200px;fill:#555}.s{font-size:240px}.s .b{font-size:280px}.n .h{font-weight:normal}</style>\n",
+    )
+}
+
+// One of the two programs.
+fn put_side(out: &mut [u8], at: usize, file: &[u8], block: &[u8]) -> usize
+    requires { ⌜ length (now block) ≡ blockLength ⌝ }
+    ensures { λ r. ⌜ Puts (now (out .entry)) at (sideText (now (file .entry)) (now (block .entry))) (now (out .exit)) r ⌝ }
+{
+    let mut next = put_name(out, at, file, block);
+    next = put(out, next, b"<tspan class='h' dx='400'>");
+    next = put_file(out, next, file, block);
+    put(out, next, b"</tspan></text>")
+}
+
+fn put_compared_head(
+    out: &mut [u8],
+    at: usize,
+    oldfile: &[u8],
+    older: &[u8],
+    file: &[u8],
+    block: &[u8],
+) -> usize
+    requires { ⌜ (length (now older) ≡ blockLength) × (length (now block) ≡ blockLength) ⌝ }
+    ensures { λ r. ⌜ Puts (now (out .entry)) at (comparedHead (now (oldfile .entry)) (now (older .entry)) (now (file .entry)) (now (block .entry))) (now (out .exit)) r ⌝ }
+{
+    let mut next = put_compared_title(out, at, oldfile, older, file, block);
+    next = put(
+        out,
+        next,
+        b"<text class='h' x='1150' y='950'>DeepMind 12 comparison</text><text class='h' x='5700' y='950'>old</text><text class='n' x='6500' y='950'>",
+    );
+    next = put_side(out, next, oldfile, older);
+    next = put(
+        out,
+        next,
+        b"<text class='h' x='5700' y='1560'>new</text><text class='n' x='6500' y='1560'>",
+    );
+    next = put_side(out, next, file, block);
+    put(
+        out,
+        next,
+        b"<path class='f' d='M1150 1750H28550'/><path class='u' d='M1150 1960H1750'/><text x='1850' y='2030'>grey: the old program, where its curve or gate differs. <tspan class='w'>was</tspan> in small: its byte, where that differs. Bytes that are not on this page may differ too: juvrada compare lists them.</text>\n",
+    )
+}
+
+// ---- foot
 fn put_foot(out: &mut [u8], at: usize, file: &[u8], block: &[u8]) -> usize
     ensures { λ r. ⌜ Puts (now (out .entry)) at (footText (now (file .entry)) (now (block .entry))) (now (out .exit)) r ⌝ }
 {
@@ -70,24 +124,52 @@ fn put_foot(out: &mut [u8], at: usize, file: &[u8], block: &[u8]) -> usize
 }
 
 // ---- the whole
-fn put_page(out: &mut [u8], file: &[u8], older: &[u8], block: &[u8]) -> usize
-    requires { ⌜ length (now block) ≡ blockLength ⌝ }
-    ensures { λ r. ⌜ Puts (now (out .entry)) 0 (pageOf (now (file .entry)) (now (older .entry)) (now (block .entry))) (now (out .exit)) r ⌝ }
+fn put_body(out: &mut [u8], at: usize, file: &[u8], older: &[u8], block: &[u8]) -> usize
+    requires { ⌜ (length (now older) ≡ blockLength) × (length (now block) ≡ blockLength) ⌝ }
+    ensures { λ r. ⌜ Puts (now (out .entry)) at (bodyText (now (file .entry)) (now (older .entry)) (now (block .entry))) (now (out .exit)) r ⌝ }
 {
-    let mut next = put_style(out, 0);
-    next = put_head(out, next, file, block);
-    next = put_panels(out, next, older, block);
-    next = put_arpeggio(out, next, block[GATE_TIME]);
+    let mut next = put_panels(out, at, older, block);
+    next = put_arpeggio(out, next, older, block);
     put_foot(out, next, file, block)
 }
 
-// Writes a block's page from the buffer's start on, and answers where it ends. `file` is the name of the block's file. Where `older` is a block too, its curves lie beneath.
-// A block of another length writes nothing.
-pub fn page(file: &[u8], older: &[u8], block: &[u8], out: &mut [u8]) -> usize
-    ensures { λ r. ⌜ Puts (now (out .entry)) 0 (pageText (now (file .entry)) (now (older .entry)) (now (block .entry))) (now (out .exit)) r ⌝ }
+fn put_page(out: &mut [u8], file: &[u8], block: &[u8]) -> usize
+    requires { ⌜ length (now block) ≡ blockLength ⌝ }
+    ensures { λ r. ⌜ Puts (now (out .entry)) 0 (pageOf (now (file .entry)) (now (block .entry))) (now (out .exit)) r ⌝ }
+{
+    let mut next = put_style(out, 0);
+    next = put_head(out, next, file, block);
+    put_body(out, next, file, block, block)
+}
+
+fn put_comparison(out: &mut [u8], oldfile: &[u8], older: &[u8], file: &[u8], block: &[u8]) -> usize
+    requires { ⌜ (length (now older) ≡ blockLength) × (length (now block) ≡ blockLength) ⌝ }
+    ensures { λ r. ⌜ Puts (now (out .entry)) 0 (comparisonOf (now (oldfile .entry)) (now (older .entry)) (now (file .entry)) (now (block .entry))) (now (out .exit)) r ⌝ }
+{
+    let mut next = put_style(out, 0);
+    next = put_compared_head(out, next, oldfile, older, file, block);
+    put_body(out, next, file, older, block)
+}
+
+// Writes a block's page from the buffer's start on, and answers where it ends. `file` is the name of the block's file. A block of another length writes nothing.
+pub fn page(file: &[u8], block: &[u8], out: &mut [u8]) -> usize
+    ensures { λ r. ⌜ Puts (now (out .entry)) 0 (pageText (now (file .entry)) (now (block .entry))) (now (out .exit)) r ⌝ }
 {
     if block.len() != BLOCK {
         return 0;
     }
-    put_page(out, file, older, block)
+    put_page(out, file, block)
+}
+
+// The same of a block beside an older one: what differs is drawn in grey beneath, and says what it was. A block of another length, old or new, writes nothing.
+pub fn comparison(oldfile: &[u8], older: &[u8], file: &[u8], block: &[u8], out: &mut [u8]) -> usize
+    ensures { λ r. ⌜ Puts (now (out .entry)) 0 (comparisonText (now (oldfile .entry)) (now (older .entry)) (now (file .entry)) (now (block .entry))) (now (out .exit)) r ⌝ }
+{
+    if older.len() != BLOCK {
+        return 0;
+    }
+    if block.len() != BLOCK {
+        return 0;
+    }
+    put_comparison(out, oldfile, older, file, block)
 }

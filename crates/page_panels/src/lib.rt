@@ -1,14 +1,14 @@
 // The panels of a page: one for each code, in the order of their numbers, and the arpeggio's.
 ghost use mathlib.Core.Path.{_≡_};
 ghost use Prim.Native.Nat.{_<_};
-ghost use lib.Dec.{eqb};
 ghost use lib.ListN.{length};
 ghost use Rattle.text.specs.Text.{Puts};
-ghost use Rattle.code_bytes.specs.Bytes.{blockLength, byteAt};
+ghost use Rattle.code_bytes.specs.Bytes.{blockLength, byteAt, gatesByte};
 ghost use Rattle.code_shapes.specs.Shapes.{shapeOf};
-ghost use Rattle.page_panels.specs.Panels.{placeText, panelEnd, drawnText, olderText, codePanel, panelText, panelsText, arpeggioText};
-use block::BLOCK;
+ghost use Rattle.page_panels.specs.Panels.{placeText, panelEnd, drawnText, olderText, codePanel, panelText, panelsText, olderGate, gateText, arpeggioText};
 use builders::of_shape;
+use code_bytes::GATE_TIME;
+use code_bytes::byte_at;
 use code_shapes::shape_at;
 use code_strip::strip_at;
 use codes::CODES;
@@ -52,80 +52,93 @@ fn put_drawn(out: &mut [u8], at: usize, block: &[u8], code: Code) -> usize
     panel::put_curve(out, next, &heights)
 }
 
-// The curve of an older program's generator, where there is such a program.
-fn put_older(out: &mut [u8], at: usize, older: &[u8], over: bool, code: Code) -> usize
-    requires { ⌜ over ≡ eqb (length (now older)) blockLength ⌝ }
-    ensures { λ r. ⌜ Puts (now (out .entry)) at (olderText (now (older .entry)) code) (now (out .exit)) r ⌝ }
+// The curve of an older program's generator, where it differs.
+fn put_older(out: &mut [u8], at: usize, older: &[u8], block: &[u8], code: Code) -> usize
+    requires { ⌜ (length (now older) ≡ blockLength) × (length (now block) ≡ blockLength) ⌝ }
+    ensures { λ r. ⌜ Puts (now (out .entry)) at (olderText (shapeOf code (byteAt (now (older .entry)))) (shapeOf code (byteAt (now (block .entry))))) (now (out .exit)) r ⌝ }
 {
-    if !over {
-        return at;
-    }
-    let mut heights = [0.0f32; SAMPLES];
-    strip_at(older, code, &mut heights);
-    panel::put_older_curve(out, at, &heights)
+    let mut old = [0.0f32; SAMPLES];
+    let mut new = [0.0f32; SAMPLES];
+    strip_at(older, code, &mut old);
+    strip_at(block, code, &mut new);
+    panel::put_older_curve(out, at, &old, &new)
 }
 
-fn put_panel(
-    out: &mut [u8],
-    at: usize,
-    older: &[u8],
-    over: bool,
-    block: &[u8],
-    k: u8,
-    code: Code,
-) -> usize
-    requires { ⌜ (k < 15) × (over ≡ eqb (length (now older)) blockLength) × (length (now block) ≡ blockLength) ⌝ }
+fn put_panel(out: &mut [u8], at: usize, older: &[u8], block: &[u8], k: u8, code: Code) -> usize
+    requires { ⌜ (k < 15) × (length (now older) ≡ blockLength) × (length (now block) ≡ blockLength) ⌝ }
     ensures { λ r. ⌜ Puts (now (out .entry)) at (codePanel (now (older .entry)) (now (block .entry)) k (CodeRead.Known code)) (now (out .exit)) r ⌝ }
 {
     let mut next = put_place(out, at, k);
-    next = put_older(out, next, older, over, code);
+    next = put_older(out, next, older, block, code);
     next = put_drawn(out, next, block, code);
     next = put_title(out, next, k);
     next = put_frame(out, next);
-    next = dials::put_dials(out, next, block, code);
+    next = dials::put_dials(out, next, older, block, code);
     put_end(out, next)
 }
 
 // The panel of a code's number.
-fn put_numbered(out: &mut [u8], at: usize, older: &[u8], over: bool, block: &[u8], k: u8) -> usize
-    requires { ⌜ (k < 15) × (over ≡ eqb (length (now older)) blockLength) × (length (now block) ≡ blockLength) ⌝ }
+fn put_numbered(out: &mut [u8], at: usize, older: &[u8], block: &[u8], k: u8) -> usize
+    requires { ⌜ (k < 15) × (length (now older) ≡ blockLength) × (length (now block) ≡ blockLength) ⌝ }
     ensures { λ r. ⌜ Puts (now (out .entry)) at (panelText (now (older .entry)) (now (block .entry)) k) (now (out .exit)) r ⌝ }
 {
     let read = code_from(k);
     match read {
-        CodeRead::Known(code) => put_panel(out, at, older, over, block, k, code),
+        CodeRead::Known(code) => put_panel(out, at, older, block, k, code),
         CodeRead::Above => at,
     }
 }
 
+// The panels of a block beside an older one; without an older one, beside itself.
 pub fn put_panels(out: &mut [u8], at: usize, older: &[u8], block: &[u8]) -> usize
-    requires { ⌜ length (now block) ≡ blockLength ⌝ }
+    requires { ⌜ (length (now older) ≡ blockLength) × (length (now block) ≡ blockLength) ⌝ }
     ensures { λ r. ⌜ Puts (now (out .entry)) at (panelsText (now (older .entry)) (now (block .entry)) 14) (now (out .exit)) r ⌝ }
 {
-    let over = older.len() == BLOCK;
     let mut next = at;
     let mut k: u8 = 0;
     while k < CODES {
-        next = put_numbered(out, next, older, over, block, k);
+        next = put_numbered(out, next, older, block, k);
         k += 1;
     }
     next
 }
 
-pub fn put_arpeggio(out: &mut [u8], at: usize, time: u8) -> usize
-    ensures { λ r. ⌜ Puts (now (out .entry)) at (arpeggioText time) (now (out .exit)) r ⌝ }
+// ---- the arpeggio's
+fn put_older_gate(out: &mut [u8], at: usize, was: u8, time: u8) -> usize
+    ensures { λ r. ⌜ Puts (now (out .entry)) at (olderGate was time) (now (out .exit)) r ⌝ }
+{
+    if was == time {
+        return at;
+    }
+    let bars = bars::bars(gates::arpeggiator_gates(was));
+    panel_marks::put_older_bars(out, at, bars)
+}
+
+// What is drawn of the gates.
+fn put_gate(out: &mut [u8], at: usize, was: u8, time: u8) -> usize
+    ensures { λ r. ⌜ Puts (now (out .entry)) at (gateText was time) (now (out .exit)) r ⌝ }
 {
     let bars = bars::bars(gates::arpeggiator_gates(time));
-    let mut next = put_place(out, at, 14);
-    next = put_title(out, next, 14);
-    next = put(
+    let mut next = put(
         out,
-        next,
+        at,
         b"<text y='-2600'>4 steps, starts at the left edge</text>",
     );
+    next = put_older_gate(out, next, was, time);
     next = panel_marks::put_bars(out, next, bars);
-    next = panel_marks::put_steps(out, next);
+    panel_marks::put_steps(out, next)
+}
+
+// The panel of the gates, from the byte of both blocks.
+pub fn put_arpeggio(out: &mut [u8], at: usize, older: &[u8], block: &[u8]) -> usize
+    ensures { λ r. ⌜ Puts (now (out .entry)) at (arpeggioText (byteAt (now (older .entry)) gatesByte) (byteAt (now (block .entry)) gatesByte)) (now (out .exit)) r ⌝ }
+{
+    let was = byte_at(older, GATE_TIME);
+    let time = byte_at(block, GATE_TIME);
+    let mut next = put_place(out, at, 14);
+    next = put_title(out, next, 14);
+    next = put_gate(out, next, was, time);
     next = put_frame(out, next);
-    next = dial_lines::put_dial(out, next, b"Gate time", time);
+    next = dial_lines::put_dial(out, next, b"Gate time", older, block, GATE_TIME);
     put_end(out, next)
 }

@@ -1,0 +1,2 @@
+-- What the comparison of two curves needs.
+pub mod Points

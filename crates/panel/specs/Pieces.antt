@@ -1,7 +1,9 @@
 -- THE PIECES OF A PANEL: docs/SPECIFICATION.md, "The page". The origin is the lower left corner of the frame, a unit is 1/100 mm, and y grows downward: a frame is 50 mm wide and 25 mm high,
 -- and a height h is at -2500 h. Definitions only.
+use mathlib.Core.Bool.{Bool, true, false, cond}
 use mathlib.Core.List.{List, [], _++_}
 use Prim.Native.Nat.{ℕ, zero, suc, _*_, min}
+use lib.Dec.{eqb}
 use lib.ListN.{length, getD}
 use lib.Ieee.{Float, nan}
 use Rattle.text.specs.Text.{ascii}
@@ -38,9 +40,15 @@ pointsText hs (suc k) = pointsText hs k ++ pointText k (getD hs k nan)
 unfoldable pub lineText : List ℕ → List Float → List ℕ
 lineText start hs = start ++ pointsText hs (min (length hs) 501) ++ ascii "'/>"
 
--- The curve; and that of an older program, which lies beneath it in grey.
 abbrev pub curveText : List Float → List ℕ
 curveText hs = lineText (ascii "<polyline class='c' points='") hs
 
-abbrev pub olderCurveText : List Float → List ℕ
-olderCurveText hs = lineText (ascii "<polyline class='u' points='") hs
+-- ---- the curve of an older program
+-- The first k samples of two strips are drawn at the same points.
+unfoldable pub samePoints : List Float → List Float → ℕ → Bool
+samePoints old new zero = true
+samePoints old new (suc k) = cond (eqb (heightUnits (getD old k nan)) (heightUnits (getD new k nan))) (samePoints old new k) false
+
+-- The older curve, which lies beneath in grey, where one of its 501 points is another; a curve that is drawn the same has none beneath it.
+unfoldable pub olderCurveText : List Float → List Float → List ℕ
+olderCurveText old new = cond (samePoints old new 501) [] (lineText (ascii "<polyline class='u' points='") old)

@@ -4,7 +4,7 @@ ghost use Prim.Native.Nat.{_<_, _≤_};
 ghost use lib.ListN.{length};
 ghost use Rattle.text.specs.Text.{Puts};
 ghost use Rattle.panel.specs.Labels.{nearestWhole, turnsText, scaleText, edgeText, subtitleText};
-ghost use Rattle.panel.specs.Pieces.{frameText, titleText, restText, pointText, pointsText, lineText, curveText, olderCurveText};
+ghost use Rattle.panel.specs.Pieces.{frameText, titleText, restText, pointText, pointsText, lineText, curveText, samePoints, olderCurveText};
 use fixed_point::nearest;
 use generator::Scale;
 use lists::at_most;
@@ -124,9 +124,32 @@ pub fn put_curve(out: &mut [u8], at: usize, heights: &[f32]) -> usize
     put_line(out, at, b"<polyline class='c' points='", heights)
 }
 
-// The curve of an older program, which lies beneath.
-pub fn put_older_curve(out: &mut [u8], at: usize, heights: &[f32]) -> usize
-    ensures { λ r. ⌜ Puts (now (out .entry)) at (olderCurveText (now (heights .entry))) (now (out .exit)) r ⌝ }
+// ---- the curve of an older program
+// Whether two strips are drawn at the same points.
+fn same_points(old: &[f32; SAMPLES], new: &[f32; SAMPLES]) -> bool
+    ensures { λ r. ⌜ r ≡ samePoints (now (old .entry)) (now (new .entry)) 501 ⌝ }
 {
-    put_line(out, at, b"<polyline class='u' points='", heights)
+    let mut left = SAMPLES;
+    while left > 0 {
+        left -= 1;
+        if nearest(old[left], 2500) != nearest(new[left], 2500) {
+            return false;
+        }
+    }
+    true
+}
+
+// The older curve lies beneath, where it differs.
+pub fn put_older_curve(
+    out: &mut [u8],
+    at: usize,
+    old: &[f32; SAMPLES],
+    new: &[f32; SAMPLES],
+) -> usize
+    ensures { λ r. ⌜ Puts (now (out .entry)) at (olderCurveText (now (old .entry)) (now (new .entry))) (now (out .exit)) r ⌝ }
+{
+    if same_points(old, new) {
+        return at;
+    }
+    put_line(out, at, b"<polyline class='u' points='", old)
 }

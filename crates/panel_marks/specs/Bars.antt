@@ -9,19 +9,22 @@ use Rattle.gates.specs.declared.Gates.{Gates}
 use Rattle.gates.specs.Gates.{gateAt}
 use Rattle.panel_marks.specs.Rules.{acrossUnits}
 
--- A bar from one step's place to another's: a step is a quarter of the frame.
-unfoldable pub barText : Gate → List ℕ
-barText g =
-    ascii "<path class='g' d='M" ++ decimalOf (acrossUnits (g .start ⊘ bits 0x4080_0000)) ++ ascii " 0V-1500H" ++ decimalOf (acrossUnits (g .end ⊘ bits 0x4080_0000)) ++ ascii "V0Z'/>"
+-- A bar from one step's place to another's, after its start and with its way up: a step is a quarter of the frame.
+unfoldable pub barText : List ℕ → List ℕ → Gate → List ℕ
+barText start up g = start ++ decimalOf (acrossUnits (g .start ⊘ bits 0x4080_0000)) ++ up ++ decimalOf (acrossUnits (g .end ⊘ bits 0x4080_0000)) ++ ascii "V0Z'/>"
 
 -- The first k bars.
-unfoldable pub someBars : Gates → ℕ → List ℕ
-someBars g zero = []
-someBars g (suc k) = someBars g k ++ barText (gateAt g k)
+unfoldable pub someBars : List ℕ → List ℕ → Gates → ℕ → List ℕ
+someBars start up g zero = []
+someBars start up g (suc k) = someBars start up g k ++ barText start up (gateAt g k)
 
--- All that are used; a record has four places.
-unfoldable pub barsText : Gates → List ℕ
-barsText g = someBars g (min (g .count) 4)
+-- All that are used; a record has four places. They are filled, and 15 mm high.
+abbrev pub barsText : Gates → List ℕ
+barsText g = someBars (ascii "<path class='g' d='M") (ascii " 0V-1500H") g (min (g .count) 4)
+
+-- Those of an older program, which lie beneath: outlines in grey, 3 mm higher, so that a longer bar does not hide them.
+abbrev pub olderBarsText : Gates → List ℕ
+olderBarsText g = someBars (ascii "<path class='u' d='M") (ascii " 0V-1800H") g (min (g .count) 4)
 
 -- Where each step ends, and the steps' numbers.
 abbrev pub stepsText : List ℕ

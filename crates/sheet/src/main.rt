@@ -1,12 +1,12 @@
 // Reads a program's block from standard input and writes its page on standard output; the argument is the name of the block's file, if it has one. Two blocks are an older program
-// and the program: the older one's curves lie beneath.
+// and the program: the page holds one against the other. A second argument is then the name of the older block's file.
 ghost use mathlib.Core.Path.{_≡_};
 ghost use lib.ListN.{length};
 use block::BLOCK;
 use libc::STDIN_FILENO;
 use libc::STDOUT_FILENO;
 
-// Room for the page, which has some 90,000 bytes, or 170,000 with the older curves. The contract gives its length only, which lending it as a slice asks for.
+// Room for the page, which has some 90,000 bytes, or 170,000 with an older program's curves. The contract gives its length only, which lending it as a slice asks for.
 fn buffer() -> [u8; 262144]
     ensures { λ r. ⌜ 262144 ≡ length r ⌝ }
 {
@@ -14,13 +14,13 @@ fn buffer() -> [u8; 262144]
 }
 
 // Where the page of a block, or of two, ends; 0 where there is none.
-fn write_page(file: &[u8], blocks: &[u8], text: &mut [u8]) -> usize
+fn write_page(oldfile: &[u8], file: &[u8], blocks: &[u8], text: &mut [u8]) -> usize
     ensures { λ _. ⌜ length (now (text .exit)) ≡ length (now (text .entry)) ⌝ }
 {
     if blocks.len() == 2 * BLOCK {
-        return page::page(file, &blocks[..BLOCK], &blocks[BLOCK..], text);
+        return page::comparison(oldfile, &blocks[..BLOCK], file, &blocks[BLOCK..], text);
     }
-    page::page(file, &blocks[..0], blocks, text)
+    page::page(file, blocks, text)
 }
 
 fn main() {
@@ -29,8 +29,15 @@ fn main() {
     // a file's name has at most 255 bytes
     let mut file = [0u8; 256];
     let named = os::arg(1, &mut file);
+    let mut oldfile = [0u8; 256];
+    let oldnamed = os::arg(2, &mut oldfile);
     let mut text = buffer();
-    let end = write_page(&file[..named], &blocks[..n], &mut text);
+    let end = write_page(
+        &oldfile[..oldnamed],
+        &file[..named],
+        &blocks[..n],
+        &mut text,
+    );
     if end == 0 {
         io::write_all(STDOUT_FILENO, b"a block has 242 bytes\n");
         return;

@@ -1,6 +1,6 @@
--- `put_depth` writes `depthDial`: its parts, one after the other. Assumes nothing.
-use mathlib.Core.Path.{refl}
+-- `put_depth` writes `depthDial` of the two bytes, and of the source's. Assumes nothing.
 use Rattle.text.proofs.Writing.{_⨾_}
+use mathlib.Core.Path.{refl}
 use Rattle.dial_lines.specs.Lines.{dialText}
 use borrow.Author.Needs.{needs}
 use Rattle.dial_lines.proofs.put_depth.Statement.{statement}
@@ -9,11 +9,11 @@ use Rattle.dial_lines.proofs.put_depth.Tie as tie
 returns : tie.Need-returns
 unfolding dialText
 returns c =
-    c .before .before .before .before .before .before .before .before .before .before .start .ensures ⨾
+    rw (c .before .before .before .before .before .before .before .before .before .before .before .before .before .byte-at .ensures, c .before .before .before .before .before .before .before .before .before .before .before .before .byte-at2 .ensures, c .before .before .before .before .before .before .before .byte-at3 .ensures) at (c .before .before .before .before .before .before .before .before .before .before .before .start .ensures ⨾
     c .before .before .before .before .before .before .put-depth .ensures ⨾
-    c .before .before .end .ensures
+    c .before .before .end .ensures)
 
 pub put-depth-spec : {M : Type 1} → statement M
 put-depth-spec = tie.close
-    (tie.spec (λ c. refl) (λ c κs. search needs) (λ c κs. search needs) (λ c κs. search needs) (λ c. search needs)
-    returns)
+    (tie.spec (λ c. refl) (λ c κs. search needs) (λ c κs. search needs) (λ c κs. search needs) (λ c κs. search needs)
+    (λ c κs. search needs) (λ c κs. search needs) (λ c. search needs) returns)

@@ -1,4 +1,4 @@
--- `put_plain` writes `plainDial`: its parts, one after the other. Assumes nothing.
+-- `put_plain` writes `plainDial` of the two bytes. Assumes nothing.
 use Rattle.text.proofs.Writing.{_⨾_}
 use Rattle.dial_lines.specs.Lines.{plainDial}
 use borrow.Author.Needs.{needs}
@@ -8,8 +8,10 @@ use Rattle.dial_lines.proofs.put_plain.Tie as tie
 returns : tie.Need-returns
 unfolding plainDial
 returns c =
-    c .before .before .before .before .before .before .start .ensures ⨾
-    c .before .before .end .ensures
+    rw (c .before .before .before .before .before .before .before .before .byte-at .ensures, c .before .before .before .before .before .before .before .byte-at2 .ensures) at (c .before .before .before .before .before .before .start .ensures ⨾
+    c .before .before .end .ensures)
 
 pub put-plain-spec : {M : Type 1} → statement M
-put-plain-spec = tie.close (tie.spec (λ c κs. search needs) (λ c κs. search needs) (λ c. search needs) returns)
+put-plain-spec = tie.close
+    (tie.spec (λ c κs. search needs) (λ c κs. search needs) (λ c κs. search needs) (λ c κs. search needs)
+    (λ c. search needs) returns)

@@ -1,7 +1,6 @@
 -- `low_pass_dials` writes `lowPassDials`: its parts, one after the other. Assumes nothing.
-use mathlib.Core.Path.{refl}
-use native.Mathlib.Omega.{arith}
 use Rattle.text.proofs.Writing.{_⨾_}
+use mathlib.Core.Path.{refl}
 use Rattle.dials.specs.Dials.{lowPassDials}
 use borrow.Author.Needs.{needs}
 use Rattle.dials.proofs.low_pass_dials.Statement.{statement}
@@ -10,10 +9,9 @@ use Rattle.dials.proofs.low_pass_dials.Tie as tie
 returns : tie.Need-returns
 unfolding lowPassDials
 returns c =
-    c .before .before .before .before .before .before .before .put-plain .ensures ⨾
+    c .before .before .before .before .before .before .put-plain .ensures ⨾
     c .before .before .put-poles .ensures
 
 pub low-pass-dials-spec : {M : Type 1} → statement M
 low-pass-dials-spec = tie.close
-    (tie.spec (λ c. refl) (λ c. omega arith) (λ c κs. search needs) (λ c. omega arith) (λ c κs. search needs)
-    (λ c. search needs) returns)
+    (tie.spec (λ c. refl) (λ c κs. search needs) (λ c κs. search needs) (λ c. search needs) returns)

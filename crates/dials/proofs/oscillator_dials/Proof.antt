@@ -1,7 +1,6 @@
 -- `oscillator_dials` writes `oscillatorDials`: its parts, one after the other. Assumes nothing.
-use mathlib.Core.Path.{refl}
-use native.Mathlib.Omega.{arith}
 use Rattle.text.proofs.Writing.{_⨾_}
+use mathlib.Core.Path.{refl}
 use Rattle.dials.specs.Dials.{oscillatorDials}
 use borrow.Author.Needs.{needs}
 use Rattle.dials.proofs.oscillator_dials.Statement.{statement}
@@ -10,13 +9,12 @@ use Rattle.dials.proofs.oscillator_dials.Tie as tie
 returns : tie.Need-returns
 unfolding oscillatorDials
 returns c =
-    c .before .before .before .before .before .before .before .before .before .before .before .before .before .before .before .before .before .before .before .put-switch .ensures ⨾
-    c .before .before .before .before .before .before .before .before .before .before .before .before .before .put-switch2 .ensures ⨾
-    c .before .before .before .before .before .before .before .before .put-source .ensures ⨾
+    c .before .before .before .before .before .before .before .before .before .before .before .before .before .before .before .put-switch .ensures ⨾
+    c .before .before .before .before .before .before .before .before .before .before .put-switch2 .ensures ⨾
+    c .before .before .before .before .before .before .put-source .ensures ⨾
     c .before .before .put-depth .ensures
 
 pub oscillator-dials-spec : {M : Type 1} → statement M
-oscillator-dials-spec =
-    tie.close (tie.spec (λ c. refl) (λ c. omega arith) (λ c κs. search needs) (λ c. refl) (λ c. omega arith)
-    (λ c κs. search needs) (λ c. omega arith) (λ c κs. search needs) (λ c. omega arith) (λ c. omega arith)
+oscillator-dials-spec = tie.close
+    (tie.spec (λ c. refl) (λ c κs. search needs) (λ c. refl) (λ c κs. search needs) (λ c κs. search needs)
     (λ c κs. search needs) (λ c. search needs) returns)

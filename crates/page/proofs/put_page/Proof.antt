@@ -8,13 +8,10 @@ use Rattle.page.proofs.put_page.Tie as tie
 returns : tie.Need-returns
 unfolding pageOf
 returns c =
-    c .before .before .before .before .before .before .before .before .before .before .before .before .before .before .before .before .before .before .before .put-style .ensures ⨾
-    c .before .before .before .before .before .before .before .before .before .before .before .before .before .before .before .put-head .ensures ⨾
-    c .before .before .before .before .before .before .before .before .before .before .before .put-panels .ensures ⨾
-    c .before .before .before .before .before .before .put-arpeggio .ensures ⨾
-    c .before .before .put-foot .ensures
+    c .before .before .before .before .before .before .before .before .before .before .put-style .ensures ⨾
+    c .before .before .before .before .before .before .put-head .ensures ⨾
+    c .before .before .put-body .ensures
 
 pub put-page-spec : {M : Type 1} → statement M
-put-page-spec =
-    tie.close (tie.spec (λ c κs. search needs) (λ c κs. search needs) (λ c κs. search needs) (λ c. search needs)
-    (λ c κs. search needs) (λ c κs. search needs) (λ c. search needs) returns)
+put-page-spec = tie.close
+    (tie.spec (λ c κs. search needs) (λ c κs. search needs) (λ c κs. search needs) (λ c. search needs) returns)

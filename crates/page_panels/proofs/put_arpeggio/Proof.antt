@@ -1,6 +1,6 @@
--- `put_arpeggio` writes `arpeggioText`. Assumes nothing.
-use mathlib.Core.Path.{refl}
+-- `put_arpeggio` writes `arpeggioText`: its parts, one after the other. Assumes nothing.
 use Rattle.text.proofs.Writing.{_⨾_}
+use mathlib.Core.Path.{refl}
 use Rattle.page_panels.specs.Panels.{arpeggioText}
 use borrow.Author.Needs.{needs}
 use Rattle.page_panels.proofs.put_arpeggio.Statement.{statement}
@@ -9,11 +9,15 @@ use Rattle.page_panels.proofs.put_arpeggio.Tie as tie
 returns : tie.Need-returns
 unfolding arpeggioText
 returns c =
-    rw (c .before .before .before .before .before .before .before .before .before .before .before .before .before .before .before .before .before .before .before .before .before .before .before .before .before .before .before .before .before .before .before .before .before .before .bars .ensures, c .before .before .before .before .before .before .before .before .before .before .before .before .before .before .before .before .before .before .before .before .before .before .before .before .before .before .before .before .before .before .before .before .before .before .before .arpeggiator-gates .ensures) at
-    (c .before .before .before .before .before .before .before .before .before .before .before .before .before .before .before .before .before .before .before .before .before .before .before .before .before .before .before .before .before .before .before .before .put-place .ensures ⨾ c .before .before .before .before .before .before .before .before .before .before .before .before .before .before .before .before .before .before .before .before .before .before .before .before .before .before .before .before .put-title .ensures ⨾ c .before .before .before .before .before .before .before .before .before .before .before .before .before .before .before .before .before .before .before .before .before .before .before .put .ensures ⨾ c .before .before .before .before .before .before .before .before .before .before .before .before .before .before .before .before .before .before .before .put-bars .ensures ⨾ c .before .before .before .before .before .before .before .before .before .before .before .before .before .before .before .put-steps .ensures ⨾ c .before .before .before .before .before .before .before .before .before .before .before .put-frame .ensures ⨾ c .before .before .before .before .before .before .put-dial .ensures ⨾ c .before .before .put-end .ensures)
+    rw (c .before .before .before .before .before .before .before .before .before .before .before .before .before .before .before .before .before .before .before .before .before .before .before .before .before .before .byte-at .ensures, c .before .before .before .before .before .before .before .before .before .before .before .before .before .before .before .before .before .before .before .before .before .before .before .before .before .byte-at2 .ensures) at (c .before .before .before .before .before .before .before .before .before .before .before .before .before .before .before .before .before .before .before .before .before .before .before .put-place .ensures ⨾
+    c .before .before .before .before .before .before .before .before .before .before .before .before .before .before .before .before .before .before .before .put-title .ensures ⨾
+    c .before .before .before .before .before .before .before .before .before .before .before .before .before .before .before .put-gate .ensures ⨾
+    c .before .before .before .before .before .before .before .before .before .before .before .put-frame .ensures ⨾
+    c .before .before .before .before .before .before .put-dial .ensures ⨾
+    c .before .before .put-end .ensures)
 
 pub put-arpeggio-spec : {M : Type 1} → statement M
 put-arpeggio-spec = tie.close
-    (tie.spec (λ c κs. search needs) (λ c κs. search needs) (λ c κs. search needs) (λ c κs. search needs) (λ c. refl)
-    (λ c κs. search needs) (λ c κs. search needs) (λ c κs. search needs) (λ c κs. search needs) (λ c. refl)
-    (λ c κs. search needs) (λ c κs. search needs) (λ c. search needs) returns)
+    (tie.spec (λ c κs. search needs) (λ c κs. search needs) (λ c κs. search needs) (λ c κs. search needs)
+    (λ c κs. search needs) (λ c κs. search needs) (λ c. refl) (λ c κs. search needs) (λ c κs. search needs)
+    (λ c. search needs) returns)

@@ -1,4 +1,4 @@
--- `put_bars` writes `barsText`: those that are used. The loop's invariant: the first i of them are written. Assumes nothing.
+-- `put_each_bar` writes `someBars`: those that are used. The loop's invariant: the first i of them are written. Assumes nothing.
 use mathlib.Core.Path.{_≡_}
 use Prim.Native.Nat.{_-_, _≤_, min}
 use native.Mathlib.Numerals.{add-one}
@@ -7,15 +7,15 @@ use borrow.Author.Needs.{needs}
 use lib.ListN.{length}
 use Rattle.text.specs.Text.{Puts}
 use Rattle.text.proofs.Writing.{_⨾_, puts-none}
-use Rattle.panel_marks.specs.Bars.{someBars, barsText}
-use Rattle.panel_marks.proofs.put_bars.Statement.{statement}
-use Rattle.panel_marks.proofs.put_bars.Tie as tie
+use Rattle.panel_marks.specs.Bars.{someBars}
+use Rattle.panel_marks.proofs.put_each_bar.Statement.{statement}
+use Rattle.panel_marks.proofs.put_each_bar.Tie as tie
 
 abbrev Inv-loop : tie.InvT-loop
-Inv-loop out₀ at bars count next₀ i₀ out next i = (i ≤ count) × (count ≤ 4) × (length out ≡ length out₀) × Puts out₀ at (someBars bars i) out next
+Inv-loop out₀ at start up bars count next₀ i₀ out next i = (i ≤ count) × (count ≤ 4) × (length out ≡ length out₀) × Puts out₀ at (someBars start up bars i) out next
 
 abbrev μ-loop : tie.MeasureT-loop
-μ-loop out₀ at bars count next₀ i₀ out next i = count - i
+μ-loop out₀ at start up bars count next₀ i₀ out next i = count - i
 
 loop-holds : tie.Need-loop-holds Inv-loop μ-loop
 unfolding someBars
@@ -26,10 +26,9 @@ unfolding someBars
 loop-again c = (search needs, search needs, search needs, rw add-one (c .before .before .before .before .before .before .loop .inv .3 ⨾ c .before .before .put-bar .ensures))
 
 returns : tie.Need-returns Inv-loop μ-loop
-unfolding barsText
-returns c = let e : c .before .loop .i ≡ min (c .before .before .before .before .args .t3 .count) 4 = omega (arith, c .before .before .at-most .ensures .0) in rw e at (c .before .loop .inv .3)
+returns c = let e : c .before .loop .i ≡ min (c .before .before .before .before .before .before .args .t5 .count) 4 = omega (arith, c .before .before .at-most .ensures .0) in rw e at (c .before .loop .inv .3)
 
-pub put-bars-spec : {M : Type 1} → statement M
-put-bars-spec =
+pub put-each-bar-spec : {M : Type 1} → statement M
+put-each-bar-spec =
     tie.close (tie.spec Inv-loop μ-loop (λ c κs. search needs) loop-holds (λ c. search needs) (λ c. search needs)
     (λ c κs. search needs) (λ c. search needs) (λ c. search needs) loop-again (λ c. search needs) returns)
