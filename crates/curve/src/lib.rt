@@ -25,7 +25,7 @@ fn raised(x: f32) -> f32
 }
 
 // What lies above 1 is 1.
-fn lowered(x: f32) -> f32
+pub fn lowered(x: f32) -> f32
     ensures { λ r. ⌜ r ≡ cond (lt one₃₂ x) one₃₂ x ⌝ }
 {
     if 1.0 < x {

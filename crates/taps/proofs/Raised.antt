@@ -136,3 +136,12 @@ pub level-raised : {h r : Float} (taps : Taps) (t : Float) (i : ℕ) → h ≡ t
 unfolding tapsLevelOf
 level-raised taps t i e k =
     k ∙ ap (tapRaisedOf (atOf taps i) (tallOf taps i) t) e ∙ raised-is (atOf taps i) (tallOf taps i) t (tapsLevelOf taps t i) (raised-level taps t i)
+
+-- ---- so no level is below 0
+not-below : (h : Float) → Raised h → lt h zero₃₂ ≡ false
+unfolding lt ofBits
+not-below h (inl e) = simp e
+not-below h (inr l) = asymmetric zero₃₂ h l
+
+pub level-from-zero : {h : Float} (taps : Taps) (t : Float) (i : ℕ) → h ≡ tapsLevelOf taps t i → lt h zero₃₂ ≡ false
+level-from-zero taps t i e = subst (λ x. lt x zero₃₂ ≡ false) (sym e) (not-below (tapsLevelOf taps t i) (raised-level taps t i))

@@ -1,9 +1,13 @@
 // The impulse train of a delay: a spike at each of its taps.
 ghost use mathlib.Core.Path.{_≡_};
+ghost use mathlib.Core.Bool.{false};
+ghost use lib.Ieee.{lt};
+ghost use Rattle.exact.specs.Binary32.{zero₃₂};
+ghost use Rattle.curve.specs.Curve.{drawnOf};
 ghost use Rattle.taps.specs.Formula.{usedOf, raisedTo, tapRaisedOf, tapsLevelOf};
 ghost use Rattle.taps.specs.Promises.{TapsAnswered};
 use curve::Height;
-use curve::drawn;
+use curve::lowered;
 use curve::position;
 use math::abs;
 
@@ -67,9 +71,20 @@ fn taps_level(taps: Taps, t: f32) -> f32
     tap_height(taps.at[3], taps.tall[3], t, third)
 }
 
+// A level that is not below 0, clamped to 0..1: it has only to be lowered.
+fn drawn_from_zero(level: f32) -> Height
+    requires { ⌜ lt level zero₃₂ ≡ false ⌝ }
+    ensures { λ r. ⌜ r ≡ drawnOf level ⌝ }
+{
+    Height {
+        height: lowered(level),
+        steps: 0,
+    }
+}
+
 // The height of an impulse train, which is never refused.
 pub fn taps_height(taps: Taps, t: f32) -> Height
     ensures { λ r. ⌜ TapsAnswered taps t r ⌝ }
 {
-    drawn(taps_level(taps, position(t)))
+    drawn_from_zero(taps_level(taps, position(t)))
 }
