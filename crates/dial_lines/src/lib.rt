@@ -4,6 +4,7 @@ ghost use Rattle.text.specs.Text.{Puts};
 ghost use Rattle.code_bytes.specs.Bytes.{byteAt};
 ghost use Rattle.dial_lines.specs.Lines.{wasText, noteStart, nameStart, dialStart, dialEnd, plainDial, onlyDial, switchDial, curvedDial, shapeDial, polesDial, sourceDial, depthDial};
 use code_bytes::byte_at;
+use numerals::put_decimal;
 use text::put;
 
 // ---- the parts of a line
