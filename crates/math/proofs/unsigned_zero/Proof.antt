@@ -1,4 +1,4 @@
--- `unsigned_zero` is `even`. Assumes nothing.
+-- `unsigned_zero` is `unsignedZero`. Assumes nothing.
 use Rattle.math.proofs.unsigned_zero.Statement.{statement}
 use Rattle.math.proofs.unsigned_zero.Tie as tie
 
