@@ -4,21 +4,19 @@ ghost use Prim.Native.Nat.{_<_};
 ghost use lib.ListN.{length};
 ghost use Rattle.text.specs.Text.{Puts};
 ghost use Rattle.code_bytes.specs.Bytes.{blockLength, byteAt, gatesByte};
-ghost use Rattle.code_shapes.specs.Shapes.{shapeOf};
-ghost use Rattle.page_panels.specs.Panels.{placeText, panelEnd, drawnText, olderText, codePanel, panelText, panelsText, olderGate, gateText, arpeggioText};
-use builders::of_shape;
+ghost use Rattle.page_panels.specs.Panels.{placeText, panelEnd, codePanel, panelText, panelsText, arpeggioText};
 use code_bytes::GATE_TIME;
 use code_bytes::byte_at;
-use code_shapes::shape_at;
-use code_strip::strip_at;
 use codes::CODES;
 use codes::Code;
 use codes::CodeRead;
 use codes::code_from;
 use numerals::put_decimal;
-use panel::SAMPLES;
 use panel::put_frame;
 use panel::put_title;
+use panel_curves::put_drawn;
+use panel_curves::put_older;
+use panel_gates::put_gate;
 use text::put;
 
 fn put_place(out: &mut [u8], at: usize, k: u8) -> usize
@@ -36,32 +34,6 @@ fn put_end(out: &mut [u8], at: usize) -> usize
     ensures { λ r. ⌜ Puts (now (out .entry)) at panelEnd (now (out .exit)) r ⌝ }
 {
     put(out, at, b"</g>\n")
-}
-
-// What is drawn of a code's generator.
-fn put_drawn(out: &mut [u8], at: usize, block: &[u8], code: Code) -> usize
-    requires { ⌜ length (now block) ≡ blockLength ⌝ }
-    ensures { λ r. ⌜ Puts (now (out .entry)) at (drawnText (shapeOf code (byteAt (now (block .entry))))) (now (out .exit)) r ⌝ }
-{
-    let mut heights = [0.0f32; SAMPLES];
-    strip_at(block, code, &mut heights);
-    let g = of_shape(shape_at(block, code));
-    let mut next = panel::put_subtitle(out, at, g.scale(), g.anchored());
-    next = panel::put_rest(out, next, g.rest());
-    next = panel_marks::put_marks(out, next, g.marks());
-    panel::put_curve(out, next, &heights)
-}
-
-// The curve of an older program's generator, where it differs.
-fn put_older(out: &mut [u8], at: usize, older: &[u8], block: &[u8], code: Code) -> usize
-    requires { ⌜ (length (now older) ≡ blockLength) × (length (now block) ≡ blockLength) ⌝ }
-    ensures { λ r. ⌜ Puts (now (out .entry)) at (olderText (shapeOf code (byteAt (now (older .entry)))) (shapeOf code (byteAt (now (block .entry))))) (now (out .exit)) r ⌝ }
-{
-    let mut old = [0.0f32; SAMPLES];
-    let mut new = [0.0f32; SAMPLES];
-    strip_at(older, code, &mut old);
-    strip_at(block, code, &mut new);
-    panel::put_older_curve(out, at, &old, &new)
 }
 
 fn put_panel(out: &mut [u8], at: usize, older: &[u8], block: &[u8], k: u8, code: Code) -> usize
@@ -101,32 +73,6 @@ pub fn put_panels(out: &mut [u8], at: usize, older: &[u8], block: &[u8]) -> usiz
         k += 1;
     }
     next
-}
-
-// ---- the arpeggio's
-fn put_older_gate(out: &mut [u8], at: usize, was: u8, time: u8) -> usize
-    ensures { λ r. ⌜ Puts (now (out .entry)) at (olderGate was time) (now (out .exit)) r ⌝ }
-{
-    if was == time {
-        return at;
-    }
-    let bars = bars::bars(gates::arpeggiator_gates(was));
-    panel_marks::put_older_bars(out, at, bars)
-}
-
-// What is drawn of the gates.
-fn put_gate(out: &mut [u8], at: usize, was: u8, time: u8) -> usize
-    ensures { λ r. ⌜ Puts (now (out .entry)) at (gateText was time) (now (out .exit)) r ⌝ }
-{
-    let bars = bars::bars(gates::arpeggiator_gates(time));
-    let mut next = put(
-        out,
-        at,
-        b"<text y='-2600'>4 steps, starts at the left edge</text>",
-    );
-    next = put_older_gate(out, next, was, time);
-    next = panel_marks::put_bars(out, next, bars);
-    panel_marks::put_steps(out, next)
 }
 
 // The panel of the gates, from the byte of both blocks.

@@ -1,3 +1,2 @@
 -- The pieces of a panel.
-pub mod Labels
 pub mod Pieces

@@ -1,3 +1,2 @@
--- The marks on a panel, and the bars of the arpeggio.
+-- The marks on a panel.
 pub mod Rules
-pub mod Bars

@@ -1,17 +1,14 @@
 -- THE PAGE OF ALL PARAMETERS: docs/SPECIFICATION.md, "The page of all parameters". A4, landscape, in hundredths of a millimetre. `file` is the name of the block's file, and empty
 -- where there is none. Definitions only.
 use mathlib.Core.Bool.{cond}
-use mathlib.Core.List.{List, [], _∷_, _++_}
-use Prim.Native.Nat.{ℕ, zero, suc, _+_, _*_, _/_, _%_}
-use lib.Dec.{eqb, ltb}
+use mathlib.Core.List.{List, [], _++_}
+use Prim.Native.Nat.{ℕ, _+_, _/_}
+use lib.Dec.{eqb}
 use lib.ListN.{length}
 use Rattle.code_bytes.specs.Bytes.{byteAt, blockLength}
 use Rattle.text.specs.Text.{ascii}
-use Rattle.numerals.specs.Spelled.{decimalOf}
-use Rattle.words.specs.Words.{indexOf}
-use Rattle.parameter_names.specs.ParameterNames.{parameterName}
 use Rattle.provenance.specs.Provenance.{nameText, fileText}
-use Rattle.undrawn_bytes.specs.Undrawn.{drawn}
+use Rattle.parameter_rows.specs.Rows.{rowsText}
 
 -- ---- head and foot
 -- The document's start, and the styles of texts (h head, n name, k number, b byte, m foot) and of lines; every other row of a column on grey, by z.
@@ -37,35 +34,6 @@ unfoldable pub footText : List ℕ → List ℕ → List ℕ
 footText file block =
     ascii "<text class='m' x='1150' y='20200'>Number, name and, in bold, the byte to dial in, 0 to 255. A dot: the sheet draws a curve from it.</text>\n<text class='m' x='1150' y='20540'>" ++ fileText file block ++
     ascii ". The curves are on the sheet: juvrada sheet.</text>\n</svg>\n"
-
--- ---- the row of byte n, which is b
--- Where it stands: 61 rows in a column.
-unfoldable pub placeText : ℕ → List ℕ
-placeText n = ascii "<g transform='translate(" ++ decimalOf (1150 + 7100 * (n / 61)) ++ ascii " " ++ decimalOf (2120 + 290 * (n % 61)) ++ ascii ")'>"
-
--- The parameters that begin a group, as LFO 2's, the oscillators', the filter's; a rule stands above each.
-abbrev pub groups : List ℕ
-groups = 7 ∷ 14 ∷ 39 ∷ 53 ∷ 62 ∷ 71 ∷ 80 ∷ 93 ∷ 117 ∷ 123 ∷ 155 ∷ 165 ∷ 179 ∷ 192 ∷ 205 ∷ 218 ∷ 223 ∷ 240 ∷ []
-
-unfoldable pub ruleText : ℕ → List ℕ
-ruleText n = cond (ltb (indexOf groups n) 18) (ascii "<path d='M0-220h6100'/>") []
-
--- A dot beside what a curve or the gates are drawn from.
-unfoldable pub dotText : ℕ → List ℕ
-dotText n = cond (drawn n) (ascii "<circle cx='80' cy='-85' r='55'/>") []
-
--- Number, name and byte.
-unfoldable pub cellsText : ℕ → ℕ → List ℕ
-cellsText n b =
-    ascii "<text class='k' x='640'>" ++ decimalOf n ++ ascii "</text><text x='800'>" ++ parameterName n ++ ascii "</text><text class='b' x='6020'>" ++ decimalOf b ++ ascii "</text></g>\n"
-
-unfoldable pub rowText : ℕ → ℕ → List ℕ
-rowText n b = placeText n ++ ruleText n ++ dotText n ++ cellsText n b
-
--- The rows of the first k bytes.
-unfoldable pub rowsText : ℕ → (ℕ → ℕ) → List ℕ
-rowsText zero bytes = []
-rowsText (suc k) bytes = rowsText k bytes ++ rowText k (bytes k)
 
 -- ---- the whole
 unfoldable pub parametersOf : List ℕ → List ℕ → List ℕ

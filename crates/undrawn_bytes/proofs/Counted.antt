@@ -7,7 +7,8 @@ use native.Mathlib.Nat.{eq-or-lt-of-le, not-suc-le-zero, le-of-suc-le-suc}
 use native.Mathlib.Omega.{arith}
 use borrow.Author.Tests.{eqb-true}
 use lib.Dec.{eqb}
-use Rattle.undrawn_bytes.specs.Undrawn.{drawn, differs, differCount, undrawnCount}
+use Rattle.drawn_bytes.specs.Drawn.{drawn}
+use Rattle.undrawn_bytes.specs.Undrawn.{differs, differCount, undrawnCount}
 
 uncounted : (t : Bool) → _≡_ {A = ℕ} (cond t 1 0) 0 → t ≡ false
 uncounted true e = absurd (omega arith)

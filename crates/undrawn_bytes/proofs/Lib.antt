@@ -1,4 +1,3 @@
 -- What the loops need; where none is counted none differs.
-pub mod Drawn
 pub mod ByteLines
 pub mod Counted

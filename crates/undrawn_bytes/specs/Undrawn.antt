@@ -1,32 +1,13 @@
 -- THE BYTES THAT NO CURVE DRAWS: docs/SPECIFICATION.md, "What differs". A reading gives the byte of each number: a is the old, b the new. Definitions only.
-use mathlib.Core.Bool.{Bool, true, false, cond, not}
+use mathlib.Core.Bool.{Bool, false, cond, not}
 use mathlib.Core.List.{List, [], _++_}
 use Prim.Native.Nat.{ℕ, zero, suc, _+_}
-use lib.Dec.{eqb, ltb}
-use lib.ListN.{length}
+use lib.Dec.{eqb}
 use Rattle.text.specs.Text.{ascii}
 use Rattle.numerals.specs.Spelled.{decimalOf}
-use Rattle.words.specs.Words.{indexOf}
-use Rattle.codes.specs.declared.CodeRead.{CodeRead}
-use Rattle.codes.specs.declared.CodeRead.the-variants.{Known, Above}
-use Rattle.codes.specs.Codes.{codeOf}
-use Rattle.code_bytes.specs.Bytes.{bytesOf, gatesByte, blockLength}
+use Rattle.code_bytes.specs.Bytes.{blockLength}
 use Rattle.parameter_names.specs.ParameterNames.{parameterName}
-
--- ---- which bytes are drawn
--- Byte n is among those that a code reads: its place is one of the list's.
-unfoldable pub readBy : CodeRead → ℕ → Bool
-readBy (Known c) n = ltb (indexOf (bytesOf c) n) (length (bytesOf c))
-readBy Above n = false
-
--- One of the first k codes reads byte n.
-unfoldable pub drawnBy : ℕ → ℕ → Bool
-drawnBy zero n = false
-drawnBy (suc k) n = cond (readBy (codeOf k) n) true (drawnBy k n)
-
--- One of the 14 curves is drawn from byte n, or the gates are.
-unfoldable pub drawn : ℕ → Bool
-drawn n = cond (eqb n gatesByte) true (drawnBy 14 n)
+use Rattle.drawn_bytes.specs.Drawn.{drawn}
 
 -- ---- those that differ
 unfoldable pub differs : ℕ → ℕ → ℕ → Bool

@@ -3,54 +3,13 @@ ghost use mathlib.Core.Path.{_≡_};
 ghost use Prim.Native.Nat.{_≤_};
 ghost use lib.ListN.{length};
 ghost use Rattle.text.specs.Text.{Puts};
-ghost use Rattle.codes.specs.Codes.{codeOf};
 ghost use Rattle.code_bytes.specs.Bytes.{byteAt, blockLength};
-ghost use Rattle.undrawn_bytes.specs.Undrawn.{readBy, drawn, differs, namedText, lineText, changeText, undrawnText, differCount, undrawnCount, undrawnPart};
-use code_bytes::GATE_TIME;
-use code_bytes::bytes_of;
-use codes::CODES;
-use codes::CodeRead;
-use codes::code_from;
+ghost use Rattle.undrawn_bytes.specs.Undrawn.{differs, namedText, lineText, changeText, undrawnText, differCount, undrawnCount, undrawnPart};
+use drawn_bytes::BYTES;
+use drawn_bytes::is_drawn;
 use numerals::put_decimal;
 use parameter_names::put_parameter_name;
 use text::put;
-use words::index_of;
-
-// How many bytes a block has.
-pub const BYTES: u8 = 242;
-
-// ---- which bytes are drawn
-// Whether the code of number k reads byte n.
-fn reads(k: u8, n: u8) -> bool
-    ensures { λ r. ⌜ r ≡ readBy (codeOf k) n ⌝ }
-{
-    let read = code_from(k);
-    match read {
-        CodeRead::Known(code) => {
-            let bytes = bytes_of(code);
-            let numbers = bytes.at;
-            index_of(&numbers[..bytes.count], n) < bytes.count
-        }
-        CodeRead::Above => false,
-    }
-}
-
-// Whether a curve or the gates are drawn from byte n.
-pub fn is_drawn(n: u8) -> bool
-    ensures { λ r. ⌜ r ≡ drawn n ⌝ }
-{
-    if n as usize == GATE_TIME {
-        return true;
-    }
-    let mut k: u8 = CODES;
-    while k > 0 {
-        k -= 1;
-        if reads(k, n) {
-            return true;
-        }
-    }
-    false
-}
 
 // Whether byte n, of which a is the old and b the new, differs and is not drawn.
 fn differs_undrawn(n: u8, a: u8, b: u8) -> bool

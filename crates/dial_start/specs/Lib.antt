@@ -1,0 +1,2 @@
+-- How a dial's line begins and ends.
+pub mod Start

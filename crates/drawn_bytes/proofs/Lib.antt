@@ -1,0 +1,2 @@
+-- What the loop over the codes needs.
+pub mod Drawn

@@ -1,0 +1,2 @@
+-- Which bytes are drawn.
+pub mod Drawn

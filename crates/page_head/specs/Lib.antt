@@ -1,0 +1,2 @@
+-- The head and the foot of a page.
+pub mod Head

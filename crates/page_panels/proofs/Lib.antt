@@ -1,2 +1,0 @@
--- A strip of 501 samples.
-pub mod Blank

@@ -1,0 +1,2 @@
+-- The bars of a panel.
+pub mod Bars

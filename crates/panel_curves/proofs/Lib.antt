@@ -1,0 +1,2 @@
+-- What a strip holds before it is filled.
+pub mod Blank

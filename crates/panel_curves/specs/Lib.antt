@@ -1,0 +1,2 @@
+-- The curve of a panel.
+pub mod Curves

@@ -1,0 +1,38 @@
+// What is drawn in the panel of a code: the curve with its marks, over an older one where they differ.
+ghost use mathlib.Core.Path.{_≡_};
+ghost use lib.ListN.{length};
+ghost use Rattle.text.specs.Text.{Puts};
+ghost use Rattle.code_bytes.specs.Bytes.{blockLength, byteAt};
+ghost use Rattle.code_shapes.specs.Shapes.{shapeOf};
+ghost use Rattle.panel_curves.specs.Curves.{drawnText, olderText};
+use builders::of_shape;
+use code_shapes::shape_at;
+use code_strip::strip_at;
+use codes::Code;
+use panel::SAMPLES;
+
+// What is drawn of a code's generator.
+pub fn put_drawn(out: &mut [u8], at: usize, block: &[u8], code: Code) -> usize
+    requires { ⌜ length (now block) ≡ blockLength ⌝ }
+    ensures { λ r. ⌜ Puts (now (out .entry)) at (drawnText (shapeOf code (byteAt (now (block .entry))))) (now (out .exit)) r ⌝ }
+{
+    let mut heights = [0.0f32; SAMPLES];
+    strip_at(block, code, &mut heights);
+    let g = of_shape(shape_at(block, code));
+    let mut next = panel_labels::put_subtitle(out, at, g.scale(), g.anchored());
+    next = panel::put_rest(out, next, g.rest());
+    next = panel_marks::put_marks(out, next, g.marks());
+    panel::put_curve(out, next, &heights)
+}
+
+// The curve of an older program's generator, where it differs.
+pub fn put_older(out: &mut [u8], at: usize, older: &[u8], block: &[u8], code: Code) -> usize
+    requires { ⌜ (length (now older) ≡ blockLength) × (length (now block) ≡ blockLength) ⌝ }
+    ensures { λ r. ⌜ Puts (now (out .entry)) at (olderText (shapeOf code (byteAt (now (older .entry)))) (shapeOf code (byteAt (now (block .entry))))) (now (out .exit)) r ⌝ }
+{
+    let mut old = [0.0f32; SAMPLES];
+    let mut new = [0.0f32; SAMPLES];
+    strip_at(older, code, &mut old);
+    strip_at(block, code, &mut new);
+    panel::put_older_curve(out, at, &old, &new)
+}

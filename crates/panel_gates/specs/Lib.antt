@@ -1,0 +1,2 @@
+-- The gates of a panel.
+pub mod GateText

@@ -1,0 +1,2 @@
+-- The words below a panel's title.
+pub mod Labels

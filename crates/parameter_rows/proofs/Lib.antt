@@ -1,0 +1,3 @@
+-- One row more; rows held against their definition.
+pub mod ByteRows
+pub mod Examples

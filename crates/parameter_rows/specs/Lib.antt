@@ -1,0 +1,2 @@
+-- The rows of the page of all parameters.
+pub mod Rows
