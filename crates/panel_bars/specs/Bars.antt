@@ -1,13 +1,18 @@
 -- THE BARS OF A PANEL: docs/SPECIFICATION.md, "The page". Definitions only.
 use mathlib.Core.List.{List, [], _++_}
 use Prim.Native.Nat.{ℕ, zero, suc, min}
+use lib.Ieee.{Float}
 use Rattle.exact.specs.Binary32.{_⊘_, bits}
 use Rattle.text.specs.Text.{ascii}
 use Rattle.numerals.specs.Spelled.{decimalOf}
+use Rattle.fixed_point.specs.Nearest.{nearestOf}
 use Rattle.gates.specs.declared.Gate.{Gate}
 use Rattle.gates.specs.declared.Gates.{Gates}
 use Rattle.gates.specs.Gates.{gateAt}
-use Rattle.panel_bars.specs.Rules.{acrossUnits}
+
+-- A position across the frame, in hundredths of a millimetre.
+abbrev pub acrossUnits : Float → ℕ
+acrossUnits x = nearestOf x 5000
 
 -- A bar from one step's place to another's, after its start and with its way up: a step is a quarter of the frame.
 unfoldable pub barText : List ℕ → List ℕ → Gate → List ℕ

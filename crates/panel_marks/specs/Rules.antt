@@ -1,20 +1,15 @@
 -- THE MARKS ON A PANEL: docs/SPECIFICATION.md, "The page". The origin is the lower left corner of the frame, a unit is 1/100 mm, and y grows downward. Definitions only.
 use mathlib.Core.List.{List, [], _++_}
 use Prim.Native.Nat.{ℕ, zero, suc, _+_, _*_, min}
-use lib.Ieee.{Float}
 use Rattle.text.specs.Text.{ascii}
 use Rattle.numerals.specs.Spelled.{decimalOf}
 use Rattle.words.specs.Words.{wordOf}
-use Rattle.fixed_point.specs.Nearest.{nearestOf}
 use Rattle.marks.specs.declared.MarkKind.{MarkKind}
 use Rattle.marks.specs.declared.MarkKind.the-variants.{Segment as ASegment, Corner, Cycle, Tap, Width, Sweep}
 use Rattle.marks.specs.declared.Mark.{Mark}
 use Rattle.marks.specs.declared.Marks.{Marks}
 use Rattle.marks.specs.Marks.{kindNumber, markAt}
-
--- A position across the frame, in hundredths of a millimetre.
-abbrev pub acrossUnits : Float → ℕ
-acrossUnits x = nearestOf x 5000
+use Rattle.panel_bars.specs.Bars.{acrossUnits}
 
 -- ---- what is at a mark
 -- By its kind's number: the letter of a segment that starts, to the right of its rule, or a word below the rule.
