@@ -36,17 +36,25 @@ fn print_strip(label: &[u8], block: &[u8], strip: &mut [f32], n: usize) {
     }
 }
 
-pub fn print_refusals() {
+fn print_blocks() {
     let bytes = [0u8; 243];
     print_block(b"refusal, block of 241 bytes: ", &bytes, 241, 0);
     print_block(b"refusal, block of 242 bytes: ", &bytes, 242, 0);
     print_block(b"refusal, block of 243 bytes: ", &bytes, 243, 0);
     print_block(b"refusal, code 13: ", &bytes, 242, 13);
     print_block(b"refusal, code 14: ", &bytes, 242, 14);
+}
+
+fn print_strips() {
     let block = [0u8; 242];
     let mut strip = [0.0f32; 4097];
     print_strip(b"refusal, strip of 1: ", &block, &mut strip, 1);
     print_strip(b"refusal, strip of 2: ", &block, &mut strip, 2);
     print_strip(b"refusal, strip of 4096: ", &block, &mut strip, 4096);
     print_strip(b"refusal, strip of 4097: ", &block, &mut strip, 4097);
+}
+
+pub fn print_refusals() {
+    print_blocks();
+    print_strips();
 }

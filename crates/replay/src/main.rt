@@ -1,8 +1,6 @@
 // Replays a list of the reference's answers, which it reads from standard input: computes each again, and prints the list with the words that it
 // computed, beside each that differs the word expected, and how many it compared. reference/generator/list.rs says what the list's lines mean. Before it,
 // the numbers of what is refused and of what is not.
-mod answer;
-mod build;
 mod limits;
 mod replay;
 mod report;

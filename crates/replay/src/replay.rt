@@ -1,13 +1,11 @@
 // The list, a line after the other.
-use crate::answer;
-use crate::answer::Answer;
-use crate::build::built;
 use crate::report;
 use crate::whole;
 use float_bits::agreeing;
 use float_bits::float_of;
 use float_bits::low_byte;
 use float_bits::low_word;
+use gates::arpeggiator_gates;
 use lists::at_most;
 use number_lines::Line;
 use number_lines::MOST;
@@ -15,6 +13,11 @@ use number_lines::end_line;
 use number_lines::is_blank;
 use number_lines::no_line;
 use number_lines::read_byte;
+use replay_answers::Answer;
+use replay_answers::built;
+use replay_answers::of_gates;
+use replay_answers::of_generator;
+use replay_answers::of_taps;
 use taps::MAX_TAPS;
 use taps::Taps;
 
@@ -65,60 +68,26 @@ fn more(n: u32) -> u32 {
     std::num::wrapping_add_u32(n, 1)
 }
 
-fn gate_answer(place: Place) -> Answer {
-    let gates = gates::arpeggiator_gates(low_byte(place.bytes));
-    let letter = place.letter;
-    match letter {
-        b'N' => answer::gate_count(gates),
-        b'M' => answer::gate_start(gates, place.index),
-        b'E' => answer::gate_end(gates, place.index),
-        _ => Answer::Nothing,
-    }
-}
-
-fn tap_answer(place: Place) -> Answer {
-    let taps = place.taps;
-    let letter = place.letter;
-    match letter {
-        b'H' => answer::height(
-            taps::taps_height(taps, float_of(low_word(place.position))),
-            place.index,
-        ),
-        b'N' => answer::mark_count(tap_marks::taps_marks(taps)),
-        b'M' => answer::mark_at(tap_marks::taps_marks(taps), place.index),
-        b'K' => answer::mark_kind(tap_marks::taps_marks(taps), place.index),
-        b'R' => answer::of_float(tap_marks::taps_rest()),
-        b'C' => answer::scale(tap_marks::taps_scale(), place.index),
-        b'A' => answer::of_flag(tap_marks::taps_anchored()),
-        _ => Answer::Nothing,
-    }
-}
-
 // What the crates answer there.
 fn answered(place: Place) -> Answer {
     if place.whole {
         return whole::answered(place);
     }
-    if place.code == GATES {
-        return gate_answer(place);
-    }
-    if place.code == TAPS {
-        return tap_answer(place);
-    }
-    let g = built(low_byte(place.code), place.bytes);
     let letter = place.letter;
-    let shape = g.shape;
-    match letter {
-        b'S' => answer::setting(shape, place.index),
-        b'H' => answer::height(g.at(float_of(low_word(place.position))), place.index),
-        b'N' => answer::mark_count(g.marks()),
-        b'M' => answer::mark_at(g.marks(), place.index),
-        b'K' => answer::mark_kind(g.marks(), place.index),
-        b'R' => answer::of_float(g.rest()),
-        b'C' => answer::scale(g.scale(), place.index),
-        b'A' => answer::of_flag(g.anchored()),
-        _ => Answer::Nothing,
+    let i = place.index;
+    if place.code == GATES {
+        return of_gates(arpeggiator_gates(low_byte(place.bytes)), letter, i);
     }
+    let position = low_word(place.position);
+    if place.code == TAPS {
+        return of_taps(place.taps, letter, i, position);
+    }
+    of_generator(
+        built(low_byte(place.code), place.bytes),
+        letter,
+        i,
+        position,
+    )
 }
 
 fn counted(tally: Tally, place: Place) -> Tally {

@@ -32,12 +32,17 @@ pub fn print_count(label: &[u8], n: u32) {
     io::write_all(STDOUT_FILENO, b"\n");
 }
 
-pub fn print_tally(tally: Tally) {
+// How many words of a generator were compared.
+fn print_generators(tally: Tally) {
     print_count(b"settings ", tally.settings);
     print_count(b"heights ", tally.heights);
     print_count(b"steps ", tally.steps);
     print_count(b"marks ", tally.marks);
     print_count(b"rest, scale, anchored ", tally.others);
+}
+
+pub fn print_tally(tally: Tally) {
+    print_generators(tally);
     print_count(b"gates ", tally.gates);
     print_count(b"taps ", tally.taps);
     print_count(b"blocks ", tally.blocks);

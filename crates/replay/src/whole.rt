@@ -1,6 +1,4 @@
 // What the crates answer of a whole block and a code: which bytes of the block count is theirs to know.
-use crate::answer;
-use crate::answer::Answer;
 use crate::replay::GATES;
 use crate::replay::Place;
 use block::HeightAnswer;
@@ -12,12 +10,17 @@ use float_bits::float_of;
 use float_bits::low_word;
 use gates::Gates;
 use marks::Marks;
+use replay_answers::Answer;
+use replay_answers::of_flag;
+use replay_answers::of_float;
+use replay_answers::of_gates;
+use replay_answers::of_marks;
 use replay_blocks::drawn_block;
 
 fn setting(block: &[u8], code: u32, i: u32) -> Answer {
     let given = block_generator::settings(block, code);
     match given {
-        SettingsAnswer::Settings(shape) => answer::setting(shape, i),
+        SettingsAnswer::Settings(shape) => replay_answers::setting(shape, i),
         SettingsAnswer::Refused(_) => Answer::Nothing,
     }
 }
@@ -25,7 +28,7 @@ fn setting(block: &[u8], code: u32, i: u32) -> Answer {
 fn height(block: &[u8], code: u32, t: f32, i: u32) -> Answer {
     let given = block::height(block, code, t);
     match given {
-        HeightAnswer::Height(h) => answer::height(h, i),
+        HeightAnswer::Height(h) => replay_answers::height(h, i),
         HeightAnswer::Refused(_) => Answer::Nothing,
     }
 }
@@ -33,7 +36,7 @@ fn height(block: &[u8], code: u32, t: f32, i: u32) -> Answer {
 fn rest(block: &[u8], code: u32) -> Answer {
     let given = block_generator::rest(block, code);
     match given {
-        RestAnswer::Rest(x) => answer::of_float(x),
+        RestAnswer::Rest(x) => of_float(x),
         RestAnswer::Refused(_) => Answer::Nothing,
     }
 }
@@ -41,7 +44,7 @@ fn rest(block: &[u8], code: u32) -> Answer {
 fn scale(block: &[u8], code: u32, i: u32) -> Answer {
     let given = block_generator::scale(block, code);
     match given {
-        ScaleAnswer::Scale(s) => answer::scale(s, i),
+        ScaleAnswer::Scale(s) => replay_answers::scale(s, i),
         ScaleAnswer::Refused(_) => Answer::Nothing,
     }
 }
@@ -49,7 +52,7 @@ fn scale(block: &[u8], code: u32, i: u32) -> Answer {
 fn anchored(block: &[u8], code: u32) -> Answer {
     let given = block_generator::anchored(block, code);
     match given {
-        AnchoredAnswer::Anchored(b) => answer::of_flag(b),
+        AnchoredAnswer::Anchored(b) => of_flag(b),
         AnchoredAnswer::Refused(_) => Answer::Nothing,
     }
 }
@@ -65,33 +68,21 @@ fn gates_of(block: &[u8]) -> Gates {
     given.gates
 }
 
-fn gate_answer(block: &[u8], letter: u8, i: u32) -> Answer {
-    match letter {
-        b'N' => answer::gate_count(gates_of(block)),
-        b'M' => answer::gate_start(gates_of(block), i),
-        b'E' => answer::gate_end(gates_of(block), i),
-        _ => Answer::Nothing,
-    }
-}
-
 fn code_answer(block: &[u8], code: u32, letter: u8, i: u32, position: u32) -> Answer {
     match letter {
         b'S' => setting(block, code, i),
         b'H' => height(block, code, float_of(position), i),
-        b'N' => answer::mark_count(marks_of(block, code)),
-        b'M' => answer::mark_at(marks_of(block, code), i),
-        b'K' => answer::mark_kind(marks_of(block, code), i),
         b'R' => rest(block, code),
         b'C' => scale(block, code, i),
         b'A' => anchored(block, code),
-        _ => Answer::Nothing,
+        _ => of_marks(marks_of(block, code), letter, i),
     }
 }
 
 pub fn answered(place: Place) -> Answer {
     let block = drawn_block(place.seed, place.most);
     if place.code == GATES {
-        return gate_answer(&block, place.letter, place.index);
+        return of_gates(gates_of(&block), place.letter, place.index);
     }
     code_answer(
         &block,

@@ -1,9 +1,12 @@
-// What the crates answer, as words.
+// What the crates answer to a letter of the list and a number's place in its line, as a word.
 use curve::Height;
 use float_bits::flag;
+use float_bits::float_of;
+use float_bits::low_byte;
 use float_bits::word_of;
 use gates::GATES_DRAWN;
 use gates::Gates;
+use generator::Generator;
 use generator::Scale;
 use generator::Shape;
 use generator::scale_number;
@@ -17,6 +20,7 @@ use settings::Lfo;
 use settings::LfoShape;
 use settings::Oscillator;
 use settings::Pass;
+use taps::Taps;
 
 // A word, or nothing where there is none to be had.
 pub enum Answer {
@@ -130,11 +134,11 @@ pub fn height(h: Height, i: u32) -> Answer {
 }
 
 // ---- marks
-pub fn mark_count(marks: Marks) -> Answer {
+fn mark_count(marks: Marks) -> Answer {
     Answer::Word((marks.count % 256) as u32)
 }
 
-pub fn mark_at(marks: Marks, i: u32) -> Answer {
+fn mark_at(marks: Marks, i: u32) -> Answer {
     let n = i as usize;
     if n < marks.count && n < MAX_MARKS {
         return of_float(marks.places[n].at);
@@ -142,7 +146,7 @@ pub fn mark_at(marks: Marks, i: u32) -> Answer {
     Answer::Nothing
 }
 
-pub fn mark_kind(marks: Marks, i: u32) -> Answer {
+fn mark_kind(marks: Marks, i: u32) -> Answer {
     let n = i as usize;
     if n < marks.count && n < MAX_MARKS {
         let mark = marks.places[n];
@@ -150,6 +154,16 @@ pub fn mark_kind(marks: Marks, i: u32) -> Answer {
         return Answer::Word(kind_number(kind) as u32);
     }
     Answer::Nothing
+}
+
+// How many marks, the position of one, its kind.
+pub fn of_marks(marks: Marks, letter: u8, i: u32) -> Answer {
+    match letter {
+        b'N' => mark_count(marks),
+        b'M' => mark_at(marks, i),
+        b'K' => mark_kind(marks, i),
+        _ => Answer::Nothing,
+    }
 }
 
 // ---- scale
@@ -162,11 +176,11 @@ pub fn scale(scale: Scale, i: u32) -> Answer {
 }
 
 // ---- gates
-pub fn gate_count(gates: Gates) -> Answer {
+fn gate_count(gates: Gates) -> Answer {
     Answer::Word((gates.count % 256) as u32)
 }
 
-pub fn gate_start(gates: Gates, i: u32) -> Answer {
+fn gate_start(gates: Gates, i: u32) -> Answer {
     let n = i as usize;
     if n < gates.count && n < GATES_DRAWN {
         return of_float(gates.places[n].start);
@@ -174,10 +188,100 @@ pub fn gate_start(gates: Gates, i: u32) -> Answer {
     Answer::Nothing
 }
 
-pub fn gate_end(gates: Gates, i: u32) -> Answer {
+fn gate_end(gates: Gates, i: u32) -> Answer {
     let n = i as usize;
     if n < gates.count && n < GATES_DRAWN {
         return of_float(gates.places[n].end);
     }
     Answer::Nothing
+}
+
+// How many gates, the start of one, its end.
+pub fn of_gates(gates: Gates, letter: u8, i: u32) -> Answer {
+    match letter {
+        b'N' => gate_count(gates),
+        b'M' => gate_start(gates, i),
+        b'E' => gate_end(gates, i),
+        _ => Answer::Nothing,
+    }
+}
+
+// ---- taps
+pub fn of_taps(taps: Taps, letter: u8, i: u32, position: u32) -> Answer {
+    match letter {
+        b'H' => height(taps::taps_height(taps, float_of(position)), i),
+        b'R' => of_float(tap_marks::taps_rest()),
+        b'C' => scale(tap_marks::taps_scale(), i),
+        b'A' => of_flag(tap_marks::taps_anchored()),
+        _ => of_marks(tap_marks::taps_marks(taps), letter, i),
+    }
+}
+
+// ---- a generator
+pub fn of_generator(g: Generator, letter: u8, i: u32, position: u32) -> Answer {
+    let shape = g.shape;
+    match letter {
+        b'S' => setting(shape, i),
+        b'H' => height(g.at(float_of(position)), i),
+        b'R' => of_float(g.rest()),
+        b'C' => scale(g.scale(), i),
+        b'A' => of_flag(g.anchored()),
+        _ => of_marks(g.marks(), letter, i),
+    }
+}
+
+// ---- the generator of a code and the bytes that it reads, as one number whose lowest byte is the last
+fn envelope_of(bytes: u64) -> Generator {
+    builders::envelope(
+        low_byte(bytes / 0x100_0000_0000_0000),
+        low_byte(bytes / 0x1_0000_0000_0000),
+        low_byte(bytes / 0x100_0000_0000),
+        low_byte(bytes / 0x1_0000_0000),
+        low_byte(bytes / 0x100_0000),
+        low_byte(bytes / 0x1_0000),
+        low_byte(bytes / 0x100),
+        low_byte(bytes),
+    )
+}
+
+// Shape, sync, slew.
+fn lfo_of(bytes: u64) -> Generator {
+    builders::lfo(
+        low_byte(bytes / 0x1_0000),
+        low_byte(bytes),
+        low_byte(bytes / 0x100),
+    )
+}
+
+fn lfo_unipolar_of(bytes: u64) -> Generator {
+    builders::lfo_unipolar(
+        low_byte(bytes / 0x1_0000),
+        low_byte(bytes),
+        low_byte(bytes / 0x100),
+    )
+}
+
+// Source, pulse, saw, depth.
+fn oscillator_one_of(bytes: u64) -> Generator {
+    builders::oscillator_one(
+        low_byte(bytes / 0x100_0000),
+        low_byte(bytes / 0x1_0000),
+        low_byte(bytes / 0x100),
+        low_byte(bytes),
+    )
+}
+
+// A code above 13 has the noise generator; the list has none.
+pub fn built(code: u8, bytes: u64) -> Generator {
+    match code {
+        0..=2 => envelope_of(bytes),
+        3 | 4 => lfo_of(bytes),
+        5 | 6 => lfo_unipolar_of(bytes),
+        7 | 8 => builders::lfo_fade(low_byte(bytes)),
+        9 => builders::filter_response(low_byte(bytes / 0x100), low_byte(bytes)),
+        10 => builders::high_pass_response(),
+        11 => oscillator_one_of(bytes),
+        12 => builders::oscillator_two(low_byte(bytes)),
+        13..=255 => builders::noise(low_byte(bytes)),
+    }
 }
