@@ -5,6 +5,8 @@ ghost use lib.ListN.{length};
 ghost use Rattle.text.specs.Text.{Puts};
 ghost use Rattle.codes.specs.Codes.{codeOf};
 ghost use Rattle.code_bytes.specs.Bytes.{byteAt, blockLength};
+ghost use Rattle.code_shapes.specs.Shapes.{shapeOf};
+ghost use Rattle.largest_difference.specs.Largest.{largestOf, comparedSamples};
 ghost use Rattle.comparison.specs.Differences.{largestText, generatorText, codeText, codesText, gateText, codeCount, codesCount, gateCount, namesText, countsText, programsText, differencesText};
 use block::BLOCK;
 use builders::of_shape;
@@ -45,6 +47,14 @@ fn put_largest(out: &mut [u8], at: usize, largest: Largest) -> usize
     put(out, next, b"\n")
 }
 
+// How far apart the curves of a code are.
+fn largest_of(old: &[u8], new: &[u8], code: Code) -> Largest
+    requires { ⌜ (length (now old) ≡ blockLength) × (length (now new) ≡ blockLength) ⌝ }
+    ensures { λ r. ⌜ r ≡ largestOf (shapeOf code (byteAt (now (old .entry)))) (shapeOf code (byteAt (now (new .entry)))) comparedSamples ⌝ }
+{
+    find_largest(of_shape(shape_at(old, code)), of_shape(shape_at(new, code)))
+}
+
 fn put_code(out: &mut [u8], at: usize, old: &[u8], new: &[u8], code: Code) -> usize
     requires { ⌜ (length (now old) ≡ blockLength) × (length (now new) ≡ blockLength) ⌝ }
     ensures { λ r. ⌜ Puts (now (out .entry)) at (generatorText code (byteAt (now (old .entry))) (byteAt (now (new .entry)))) (now (out .exit)) r ⌝ }
@@ -53,9 +63,7 @@ fn put_code(out: &mut [u8], at: usize, old: &[u8], new: &[u8], code: Code) -> us
     if same(old, new, code) {
         return put(out, titled, b"same\n");
     }
-    let g = of_shape(shape_at(old, code));
-    let h = of_shape(shape_at(new, code));
-    let next = put_largest(out, titled, find_largest(g, h));
+    let next = put_largest(out, titled, largest_of(old, new, code));
     put_code_changes(out, next, old, new, code)
 }
 

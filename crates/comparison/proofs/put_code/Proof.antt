@@ -1,6 +1,4 @@
 -- `put_code` puts `generatorText`. Assumes nothing.
-use Rattle.generator.specs.Generator.{generatorOf}
-use Rattle.comparison.proofs.Known.{known-largest}
 use Rattle.comparison.specs.Differences.{largestText, generatorText}
 use Rattle.text.proofs.Writing.{_⨾_, puts-as}
 use mathlib.Core.Path.{sym, ap, _∙_}
@@ -15,13 +13,11 @@ returns c = simp (sym (c .before .before .before .before .before .before .same .
 returns-2 : tie.Need-returns-2
 unfolding generatorText
 returns-2 c =
-    let largest = known-largest _ _ _ _ _ (c .before .before .before .before .before .before .before .before .before .before .before .of-shape .ensures ∙ ap generatorOf (c .before .before .before .before .before .before .before .before .before .before .before .before .shape-at .ensures)) (c .before .before .before .before .before .before .before .before .before .of-shape2 .ensures ∙ ap generatorOf (c .before .before .before .before .before .before .before .before .before .before .shape-at2 .ensures)) (c .before .before .before .before .before .before .before .find-largest .ensures) in
-    simp (sym (c .before .before .before .before .before .before .before .before .before .before .before .before .before .before .same .ensures) ∙ c .before .before .before .before .before .before .before .before .before .before .before .before .before .if1 .left)
-    (rw (c .before .before .before .before .before .before .before .before .before .before .before .before .before .before .before .before .before .before .code-number .ensures) at (c .before .before .before .before .before .before .before .before .before .before .before .before .before .before .before .before .before .put-title .ensures) ⨾ (puts-as (ap largestText largest) (c .before .before .before .before .before .before .put-largest .ensures) ⨾ c .before .before .put-code-changes .ensures))
+    simp (sym (c .before .before .before .before .before .before .before .before .before .before .same .ensures) ∙ c .before .before .before .before .before .before .before .before .before .if1 .left)
+    (rw (c .before .before .before .before .before .before .before .before .before .before .before .before .before .before .code-number .ensures) at (c .before .before .before .before .before .before .before .before .before .before .before .before .before .put-title .ensures) ⨾ (puts-as (ap largestText (c .before .before .before .before .before .before .before .largest-of .ensures)) (c .before .before .before .before .before .before .put-largest .ensures) ⨾ c .before .before .put-code-changes .ensures))
 
 pub put-code-spec : {M : Type 1} → statement M
 put-code-spec =
     tie.close (tie.spec (λ c κs. search needs) (λ c κs. search needs) (λ c κs. search needs) (λ c. search needs)
     (λ c κs. search needs) (λ c. search needs) returns (λ c κs. search needs) (λ c κs. search needs)
-    (λ c κs. search needs) (λ c κs. search needs) (λ c κs. search needs) (λ c κs. search needs) (λ c κs. search needs)
-    (λ c. search needs) returns-2)
+    (λ c κs. search needs) (λ c. search needs) returns-2)
