@@ -19,7 +19,8 @@ use Rattle.envelope.specs.Formula.{divideOf, denominatorOf, bentUnit, bentOf, a
 use Rattle.fade.specs.Formula.{fadeLevelOf, fadeHeightOf}
 use Rattle.oscillator.specs.Formula.{sawOf, pulseOf, addedOf, sumOf, wavesOf, oscillatorLevelOf, oscillatorHeightOf}
 use Rattle.lfo_shapes.specs.Formula.{wrapOf, samples, sampleOf, indexOf, sampledOf, triangleOf, squareOf, rampUpOf, glideOf, shapeAtOf}
-use Rattle.lfo.specs.Formula.{stepOf, placeOf, fullFrom, fullSteps, walkedOf, lfoHeightOf}
+use Rattle.walk.specs.Formula.{stepOf, placeOf, fullFrom, fullSteps, walkedOf}
+use Rattle.lfo.specs.Formula.{lfoHeightOf}
 use Rattle.generator.specs.declared.Shape.{Shape}
 use Rattle.generator.specs.declared.Shape.the-variants.{Envelope as AnEnvelope, Fade as AFade, Lfo as AnLfo, Oscillator as AnOscillator}
 use Rattle.generator.specs.Heights.{heightOf}

@@ -15,7 +15,7 @@ use Rattle.exact.proofs.Monotone.{unsigned, of-value, le-cross, cross-le, unsig
 use Rattle.math.specs.Formulas.{clampOf}
 use Rattle.math.proofs.Whole.{of-int}
 use Rattle.curve.specs.Curve.{positionOf}
-use Rattle.lfo.proofs.Steps.{le-nlt}
+use Rattle.walk.proofs.Steps.{le-nlt}
 use Rattle.strip.specs.Strip.{partOf}
 
 -- ---- the number of a sample, as a float

@@ -20,12 +20,12 @@ use Rattle.lfo_shapes.specs.Exact.{shapeℚ}
 use Rattle.lfo_shapes.proofs.Bounded.{shapeBound}
 use Rattle.lfo_shapes.proofs.ShapeError.{Reached, shape-bounded, shape-range, shape-fits}
 use Rattle.lfo_shapes.proofs.DrawnPhase.{Spanned}
-use Rattle.lfo.specs.Formula.{placeOf, limitOf, movedOf, levelAfter, cutAfter}
-use Rattle.lfo.specs.Exact.{limitℚ, movedℚ, levelAfterℚ, cutAfterℚ}
-use Rattle.lfo.proofs.Places.{place-start}
-use Rattle.lfo.proofs.Advances.{Stepped, six₃₂, stepped, cut, first-phase}
-use Rattle.lfo.proofs.MostError.{Slew, limited}
-use Rattle.lfo.proofs.StepError.{Walked, largest, targetError, stepCost, step-near}
+use Rattle.walk.specs.Formula.{placeOf, limitOf, movedOf, levelAfter, cutAfter}
+use Rattle.walk.specs.Exact.{limitℚ, movedℚ, levelAfterℚ, cutAfterℚ}
+use Rattle.walk.proofs.Places.{place-start}
+use Rattle.walk.proofs.Advances.{Stepped, six₃₂, stepped, cut, first-phase}
+use Rattle.walk.proofs.MostError.{Slew, limited}
+use Rattle.walk.proofs.StepError.{Walked, largest, targetError, stepCost, step-near}
 
 -- ---- THE SHAPE'S OWN LEVEL at a phase of at most 6
 low-enough : (x : Float) → value x ≤ℚ value six₃₂ → value x ≤ℚ ratio 16777216 1

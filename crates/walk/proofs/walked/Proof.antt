@@ -3,11 +3,11 @@ use mathlib.Core.Path.{_≡_, refl, sym, ap, _∙_}
 use mathlib.Core.Logic.{inl, inr}
 use Prim.Native.Nat.{_-_, _≤_}
 use lib.Ieee.{ofBits, neg, ofInt, add, mul, div, le}
-use Rattle.lfo.specs.Formula.{stepOf, placeOf, limitOf, levelAfter, fullFrom, fullSteps}
-use Rattle.lfo.proofs.Counts.{search-here, search-last, search-on, level-next, previous-next, finished}
+use Rattle.walk.specs.Formula.{stepOf, placeOf, limitOf, levelAfter, fullFrom, fullSteps}
+use Rattle.walk.proofs.Counts.{search-here, search-last, search-on, level-next, previous-next, finished}
 use borrow.Author.Needs.{needs}
-use Rattle.lfo.proofs.walked.Statement.{statement}
-use Rattle.lfo.proofs.walked.Tie as tie
+use Rattle.walk.proofs.walked.Statement.{statement}
+use Rattle.walk.proofs.walked.Tie as tie
 
 abbrev Inv-loop : tie.InvT-loop
 Inv-loop phase shape limit level₀ previous₀ count₀ level previous count =

@@ -1,8 +1,8 @@
 -- `moved` is `movedOf`. Assumes nothing.
-use Rattle.lfo.specs.Formula.{movedOf}
+use Rattle.walk.specs.Formula.{movedOf}
 use borrow.Author.Needs.{needs}
-use Rattle.lfo.proofs.moved.Statement.{statement}
-use Rattle.lfo.proofs.moved.Tie as tie
+use Rattle.walk.proofs.moved.Statement.{statement}
+use Rattle.walk.proofs.moved.Tie as tie
 
 pub moved-spec : {M : Type 1} → statement M
 unfolding movedOf

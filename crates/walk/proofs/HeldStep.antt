@@ -14,7 +14,7 @@ use Rattle.exact.proofs.Parts.{num⁺, num⁻, neg⁺, neg⁻, sum-parts, diffe
 use Rattle.exact.proofs.Order.{≤ℚ-parts, parts-≤ℚ, AtMost, at-most-refl, at-most-trans, at-most-equal, parts-equal, equal-at-most, equal-sym, within-close, close-within}
 use Rattle.exact.proofs.Inequality.{minus-at-most}
 use Rattle.exact.proofs.Lipschitz.{IsMin, IsMax, upward, downward, before-best, best-within, min-is-min, max-is-max}
-use Rattle.lfo.specs.Exact.{heldℚ}
+use Rattle.walk.specs.Exact.{heldℚ}
 
 -- ---- sums
 pub plus-at-most : {a b : Fraction} (c : Fraction) → Defined c → AtMost a b → AtMost (c +ℚ a) (c +ℚ b)

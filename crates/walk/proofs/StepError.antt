@@ -27,9 +27,9 @@ use Rattle.exact.proofs.Inputs.{own-near, covers, two, two-inputs, bounded, con
 use Rattle.exact.proofs.OwnRange.{own-range}
 use Rattle.math.specs.Formulas.{clampOf}
 use Rattle.lfo_shapes.proofs.ShapeError.{InRange}
-use Rattle.lfo.specs.Exact.{heldℚ}
-use Rattle.lfo.proofs.HeldStep.{negate-at-most, plus-at-most, plus-within, there, step-within, held-inside, held-range, step-above, step-below}
-use Rattle.lfo.proofs.MostError.{Limited}
+use Rattle.walk.specs.Exact.{heldℚ}
+use Rattle.walk.proofs.HeldStep.{negate-at-most, plus-at-most, plus-within, there, step-within, held-inside, held-range, step-above, step-below}
+use Rattle.walk.proofs.MostError.{Limited}
 
 -- ---- distances in units of 1 / s
 pub units-loosen : {a b : Fraction} (r t s : ℕ) → r ≤ t → Within a b (ratio r s) → Within a b (ratio t s)

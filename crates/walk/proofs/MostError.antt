@@ -23,10 +23,10 @@ use Rattle.exact.proofs.Soundness.{plainly}
 use Rattle.exact.proofs.Inputs.{range, input, covers, one, one-input, two, two-inputs, bounded, concludes, concluded}
 use Rattle.exact.proofs.OwnRange.{widened, own-range, approximates-finite}
 use Rattle.floor.proofs.Phase.{phase-finite}
-use Rattle.lfo.specs.Formula.{limitOf}
-use Rattle.lfo.specs.Exact.{limitℚ}
-use Rattle.lfo.proofs.Advances.{Stepped, six₃₂}
-use Rattle.lfo.proofs.ProductSign.{product-nonnegative, product-at-most, mul-nonnegative}
+use Rattle.walk.specs.Formula.{limitOf}
+use Rattle.walk.specs.Exact.{limitℚ}
+use Rattle.walk.proofs.Advances.{Stepped, six₃₂}
+use Rattle.walk.proofs.ProductSign.{product-nonnegative, product-at-most, mul-nonnegative}
 
 -- ---- THE LIMIT OF A CYCLE, for a slew from 1/255 to 1
 abbrev two₃₂ : Float

@@ -3,7 +3,7 @@ use mathlib.Core.Bool.{not}
 use Prim.Native.Nat.{ℕ, _≤_, _<_}
 use lib.Dec.{T}
 use lib.Ieee.{Float, lt}
-use Rattle.lfo.specs.Formula.{placeOf}
+use Rattle.walk.specs.Formula.{placeOf}
 
 -- k is the first count from 1 up whose place is not below the phase, and lies from 96 to 672.
 pub record Steps (phase : Float) (k : ℕ) : Type 0 where

@@ -1,47 +1,29 @@
--- A STEP OF THE WALK goes from one position to the next, which lies above it by at most 1/85, or is cut at a phase between the two. One test of each count, computed. Assumes nothing.
+-- A STEP OF THE WALK goes from one position to the next, which lies above it by at most 1/85, or is cut at a phase between the two. Assumes nothing.
 use mathlib.Core.Path.{subst}
-use mathlib.Core.Bool.{Bool, true, false, cond, _&&_}
+use mathlib.Core.Bool.{Bool, true, false, cond}
 use Prim.Native.Nat.{ℕ, suc, _<_}
 use native.Mathlib.Nat.{mul-pos}
 use native.Mathlib.Omega.{arith}
-use lib.IntN.{pos, _*ℤ_}
-use lib.Signed.{leZ, leZ-yes}
+use lib.IntN.{pos}
 use lib.Dec.{T, lit≤}
-use lib.Ieee.{Float, binary32, ofBits, ofInt, neg, add, mul, div, fits, lt, le, eq}
-use lib.Ieee.Fits.{and-l, and-r}
+use lib.Ieee.{Float, binary32, ofBits, neg, fits, lt, eq}
 use lib.Ieee.Scale.{finite}
-use Rattle.exact.specs.Fraction.{Fraction, ratio, whole, _-ℚ_, _≤ℚ_}
+use Rattle.exact.specs.Fraction.{ratio, whole, _-ℚ_, _≤ℚ_}
 use Rattle.exact.specs.Value.{value, Equal}
 use Rattle.exact.specs.Binary32.{bits, zero₃₂, one₃₂}
-use Rattle.exact.proofs.Order.{parts-≤ℚ, ≤ℚ-trans, equal-at-most, equal-sym, lt-at-most, le-value, eq-value}
+use Rattle.exact.proofs.Order.{parts-≤ℚ, ≤ℚ-trans, equal-at-most, equal-sym, lt-at-most, eq-value}
 use Rattle.exact.proofs.Signs.{difference-monotone}
 use Rattle.exact.proofs.Defined.{value-defined}
-use Rattle.lists.proofs.Every.{every, each}
 use Rattle.math.proofs.Nan.{finite-number}
 use Rattle.math.specs.Formulas.{minOf}
 use Rattle.floor.proofs.Phase.{Phase, from-zero, phase-finite}
 use Rattle.lfo_shapes.proofs.DrawnPhase.{Spanned, spanned-phase}
-use Rattle.lfo.specs.Formula.{stepOf, placeOf}
-use Rattle.lfo.proofs.Places.{place-fits, place-finite, place-start, place-phase}
+use Rattle.walk.specs.Formula.{placeOf}
+use Rattle.walk.proofs.Places.{place-fits, place-finite, place-start, place-end, place-phase, at-most-later, next-near}
 
--- ---- two places, one after the other
+-- ---- where the walk ends
 abbrev pub six₃₂ : Float
 six₃₂ = bits 0x40c0_0000
-
-closeTest : Fraction → Fraction → Bool
-closeTest a b = leZ ((b -ℚ a) .num *ℤ pos 85) (pos 1 *ℤ pos ((b -ℚ a) .den))
-
-unfoldable pairTest : Float → Float → Bool
-unfolding closeTest value
-pairTest p q = le (neg one₃₂) p && le p q && le q six₃₂ && closeTest (value p) (value q)
-
-unfoldable placeTest : ℕ → Bool
-unfolding pairTest
-placeTest k = pairTest (placeOf k) (placeOf (suc k))
-
-places-pass : T (every placeTest 672)
-unfolding every placeTest pairTest closeTest value placeOf stepOf ofBits add neg mul ofInt div le
-places-pass = tt
 
 -- ---- A STEP from a place to a phase
 pub record Stepped (p q : Float) : Type 0 where
@@ -54,31 +36,19 @@ pub record Stepped (p q : Float) : Type 0 where
   pub highest : value q ≤ℚ value six₃₂
   pub near : value q -ℚ value p ≤ℚ ratio 1 85
 
-pair-stepped : (p q : Float) → T (fits binary32 p) → T (fits binary32 q) → T (finite p) → Phase q → T (pairTest p q) → Stepped p q
-unfolding pairTest closeTest ofBits neg
-pair-stepped p q f g P j h =
-    let t₁ = le (neg one₃₂) p in
-    let t₂ = le p q in
-    let t₃ = le q six₃₂ in
-    let t₄ = closeTest (value p) (value q) in
-    let h₃ = and-l (t₁ && t₂ && t₃) t₄ h in
-    let h₂ = and-l (t₁ && t₂) t₃ h₃ in
-    let Q = phase-finite q j in
-    record {
-      start = f;
-      stop = g;
-      number = P;
-      phase = j;
-      lowest = le-value (neg one₃₂) p tt P .0 (and-l t₁ t₂ h₂);
-      order = le-value p q P Q .0 (and-r t₁ t₂ h₂);
-      highest = le-value q six₃₂ Q tt .0 (and-r (t₁ && t₂) t₃ h₃);
-      near = leZ-yes (and-r (t₁ && t₂ && t₃) t₄ h);
-    }
-
 -- a full step
 pub stepped : (k : ℕ) → k < 672 → Stepped (placeOf k) (placeOf (suc k))
-unfolding placeTest
-stepped k h = pair-stepped (placeOf k) (placeOf (suc k)) (place-fits k) (place-fits (suc k)) (place-finite k (omega arith)) (place-phase (suc k) (omega arith)) (each placeTest 672 k places-pass h)
+stepped k h =
+    record {
+      start = place-fits k;
+      stop = place-fits (suc k);
+      number = place-finite k (omega arith);
+      phase = place-phase (suc k) h;
+      lowest = subst (λ (x : Float). value x ≤ℚ value (placeOf k)) place-start (at-most-later 0 k (omega arith) (omega arith));
+      order = at-most-later k (suc k) (omega arith) h;
+      highest = subst (λ (x : Float). value (placeOf (suc k)) ≤ℚ value x) place-end (at-most-later (suc k) 672 h (lit≤ tt));
+      near = next-near k h;
+    }
 
 -- and one that ends sooner
 sooner : {p q : Float} (x : Float) → Stepped p q → T (fits binary32 x) → Phase x → value p ≤ℚ value x → value x ≤ℚ value q → Stepped p x

@@ -9,7 +9,7 @@ use Rattle.curve.specs.declared.Height.{Height}
 use Rattle.curve.specs.Curve.{clampUnitOf}
 use Rattle.settings.specs.declared.LfoShape.{LfoShape}
 use Rattle.settings.specs.declared.Lfo.{Lfo}
-use Rattle.lfo.specs.Formula.{placeOf, limitOf, movedOf, levelAfter, cutAfter, fullFrom, fullSteps, walkedOf}
+use Rattle.walk.specs.Formula.{placeOf, limitOf, movedOf, levelAfter, cutAfter, fullFrom, fullSteps, walkedOf}
 
 from-one : (n : ℕ) → 1 ≤ n → n ≡ suc (n - 1)
 from-one n h = omega arith

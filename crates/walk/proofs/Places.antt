@@ -1,4 +1,4 @@
--- THE POSITIONS OF THE WALK, counts 0 to 672: each above the one before, from -1 to 6, the halves among them met exactly. Those below 0 are multiples of 2 ^ -24, so that `fract` is
+-- THE POSITIONS OF THE WALK, counts 0 to 672: each above the one before by at most 1/85, from -1 to 6, the halves among them met exactly. Those below 0 are multiples of 2 ^ -24, so that `fract` is
 -- exact on all. Computed over the table of counts. Assumes nothing.
 use mathlib.Core.Path.{_≡_, refl, sym, subst}
 use mathlib.Core.Logic.{inl, inr}
@@ -6,7 +6,8 @@ use mathlib.Core.Bool.{Bool, true, false, not, _&&_}
 use Prim.Native.Nat.{ℕ, zero, suc, _+_, _*_, _/_, _^_, _≤_, _<_}
 use native.Mathlib.Nat.{not-suc-le-zero, eq-or-lt-of-le, le-of-suc-le-suc, mul-lt-mul-of-pos-right, lt-of-mul-lt-mul-right}
 use native.Mathlib.Omega.{arith}
-use lib.IntN.{natAbs}
+use lib.IntN.{pos, natAbs, _*ℤ_}
+use lib.Signed.{leZ, leZ-yes}
 use lib.Dec.{T, lit≤, eqb, leb, ltb, eqb→eq, leb→le, ltb→lt, nleb→lt}
 use lib.Ieee.{Float, binary32, ofBits, ofInt, neg, add, mul, div, lt, fits}
 use lib.Ieee.Fits.{and-l, and-r, add-fits}
@@ -19,7 +20,7 @@ use Rattle.exact.proofs.Defined.{value-defined}
 use Rattle.exact.proofs.Order.{cross, ≤ℚ-refl, parts-equal, lt-at-most, compared, test-passes}
 use Rattle.lists.proofs.Every.{every, each}
 use Rattle.floor.proofs.Phase.{Phase, from-zero, walked}
-use Rattle.lfo.specs.Formula.{stepOf, placeOf}
+use Rattle.walk.specs.Formula.{stepOf, placeOf}
 
 pub place-fits : (k : ℕ) → T (fits binary32 (placeOf k))
 unfolding placeOf
@@ -38,12 +39,18 @@ pub place-end : placeOf 672 ≡ bits 0x40c0_0000
 unfolding placeOf stepOf ofBits ofInt neg add mul div
 place-end = refl
 
--- ---- each is a number, above the one before
-steady : ℕ → Bool
-steady k = finite (placeOf k) && lt (placeOf k) (placeOf (suc k))
+-- ---- each is a number, above the one before, by at most 1/85
+near : Fraction → Fraction → Bool
+near a b = leZ ((b -ℚ a) .num *ℤ pos 85) (pos 1 *ℤ pos ((b -ℚ a) .den))
+
+unfoldable ordered : Float → Float → Bool
+ordered p q = lt p q && near (value p) (value q)
+
+unfoldable steady : ℕ → Bool
+steady k = finite (placeOf k) && ordered (placeOf k) (placeOf (suc k))
 
 steady-all : T (every steady 672)
-unfolding every steady placeOf stepOf ofBits ofInt neg add mul div lt
+unfolding every steady ordered near value placeOf stepOf ofBits ofInt neg add mul div lt
 steady-all = tt
 
 pub place-finite : (k : ℕ) → k ≤ 672 → T (finite (placeOf k))
@@ -53,12 +60,20 @@ place-finite k h =
       | inl e ↦
           subst (λ (j : ℕ). T (finite (placeOf j))) (sym e) (subst (λ (x : Float). T (finite x)) (sym place-end) (unfold ofBits in tt))
       | inr l ↦
-          and-l (finite (placeOf k)) (lt (placeOf k) (placeOf (suc k))) (each steady 672 k steady-all l)
+          and-l (finite (placeOf k)) (ordered (placeOf k) (placeOf (suc k))) (each steady 672 k steady-all l)
     ]
 
-next-above : (k : ℕ) → k < 672 → T (lt (placeOf k) (placeOf (suc k)))
+next-ordered : (k : ℕ) → k < 672 → T (ordered (placeOf k) (placeOf (suc k)))
 unfolding steady
-next-above k l = and-r (finite (placeOf k)) (lt (placeOf k) (placeOf (suc k))) (each steady 672 k steady-all l)
+next-ordered k l = and-r (finite (placeOf k)) (ordered (placeOf k) (placeOf (suc k))) (each steady 672 k steady-all l)
+
+next-above : (k : ℕ) → k < 672 → T (lt (placeOf k) (placeOf (suc k)))
+unfolding ordered
+next-above k l = and-l (lt (placeOf k) (placeOf (suc k))) (near (value (placeOf k)) (value (placeOf (suc k)))) (next-ordered k l)
+
+pub next-near : (k : ℕ) → k < 672 → value (placeOf (suc k)) -ℚ value (placeOf k) ≤ℚ ratio 1 85
+unfolding ordered near
+next-near k l = leZ-yes (and-r (lt (placeOf k) (placeOf (suc k))) (near (value (placeOf k)) (value (placeOf (suc k)))) (next-ordered k l))
 
 -- over numbers the order is that of their values
 lt-chain : (x y z : Float) → T (finite x) → T (finite y) → T (finite z) → T (lt x y) → T (lt y z) → T (lt x z)
@@ -125,19 +140,21 @@ below-zero k h =
     (same-equal a (negℚ (ratio m (2 ^ 24))) (and-r (leb m (2 ^ 24)) (same a (negℚ (ratio m (2 ^ 24)))) u))
 
 -- ---- where they lie
+pub at-most-later : (j k : ℕ) → j ≤ k → k ≤ 672 → value (placeOf j) ≤ℚ value (placeOf k)
+at-most-later j k h l =
+    elim (eq-or-lt-of-le h) [
+      | inl e ↦
+          subst (λ (i : ℕ). value (placeOf j) ≤ℚ value (placeOf i)) e (≤ℚ-refl (value (placeOf j)))
+      | inr m ↦
+          lt-at-most (placeOf j) (placeOf k) (place-finite j (omega arith)) (place-finite k l) (increasing j k m l) .le
+    ]
+
 pub place-below-zero : (k : ℕ) → k < 96 → T (lt (placeOf k) zero₃₂)
 place-below-zero k h = subst (λ (x : Float). T (lt (placeOf k) x)) place-zero (increasing k 96 h (lit≤ tt))
 
 pub place-above-zero : (k : ℕ) → 96 ≤ k → k ≤ 672 → ratio 0 1 ≤ℚ value (placeOf k)
 unfolding value ofBits
-place-above-zero k h l =
-    subst (λ (x : Float). value x ≤ℚ value (placeOf k)) place-zero
-    (elim (eq-or-lt-of-le h) [
-      | inl e ↦
-          subst (λ (j : ℕ). value (placeOf 96) ≤ℚ value (placeOf j)) e (≤ℚ-refl (value (placeOf 96)))
-      | inr m ↦
-          lt-at-most (placeOf 96) (placeOf k) (place-finite 96 (lit≤ tt)) (place-finite k l) (increasing 96 k m l) .le
-    ])
+place-above-zero k h l = subst (λ (x : Float). value x ≤ℚ value (placeOf k)) place-zero (at-most-later 96 k h l)
 
 -- `fract` is exact on every one
 pub place-phase : (k : ℕ) → k ≤ 672 → Phase (placeOf k)
