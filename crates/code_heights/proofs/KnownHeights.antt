@@ -14,7 +14,8 @@ use Rattle.exp2.specs.Formula.{exp2Scale, exp2Coefficients, exp2Within, exp2Of}
 use Rattle.lists.proofs.Rows.{allPass}
 use Rattle.curve.specs.declared.Height.{Height}
 use Rattle.curve.specs.Curve.{positionOf, drawnOf}
-use Rattle.settings.specs.Settings.{byteOf, totalOf, firstOf, secondOf, thirdOf, slopeOf, sloped, sustainEndOf, bendOf, envelopeOf, lfoShapeOf, turnsOf, lfoOf, fadeOf, depthOf, widthOf, sweepOf, oscillatorOneOf, oscillatorTwoOf}
+use Rattle.settings.specs.Settings.{byteOf, lfoShapeOf, turnsOf, lfoOf, fadeOf, depthOf, widthOf, sweepOf, oscillatorOneOf, oscillatorTwoOf}
+use Rattle.envelope_settings.specs.Formula.{totalOf, firstOf, secondOf, thirdOf, slopeOf, sloped, sustainEndOf, bendOf, envelopeOf}
 use Rattle.envelope.specs.Formula.{divideOf, denominatorOf, bentUnit, bentOf, attackOf, decayOf, sustainOf, releaseOf, envelopeLevelOf, envelopeHeightOf}
 use Rattle.fade.specs.Formula.{fadeLevelOf, fadeHeightOf}
 use Rattle.oscillator.specs.Formula.{sawOf, pulseOf, addedOf, sumOf, wavesOf, oscillatorLevelOf, oscillatorHeightOf}

@@ -12,7 +12,7 @@ use Rattle.exact.specs.Fraction.{ratio, whole, _-ℚ_, _≤ℚ_}
 use Rattle.exact.specs.Value.{value, Equal}
 use Rattle.exact.specs.Binary32.{bits, zero₃₂, one₃₂}
 use Rattle.exact.proofs.Order.{parts-≤ℚ, ≤ℚ-trans, equal-at-most, equal-sym, lt-at-most, eq-value}
-use Rattle.exact.proofs.Signs.{difference-monotone}
+use Rattle.rounding.proofs.Signs.{difference-monotone}
 use Rattle.exact.proofs.Defined.{value-defined}
 use Rattle.math.proofs.Nan.{finite-number}
 use Rattle.math.specs.Formulas.{minOf}

@@ -15,13 +15,13 @@ use Rattle.exact.specs.Binary32.{_⊖_, _⊗_, bits, one₃₂}
 use Rattle.exact.proofs.Order.{≤ℚ-parts, parts-≤ℚ, ≤ℚ-refl, ≤ℚ-trans, sum-raise-left, AtMost, within-triangle, within-loosen, le-value}
 use Rattle.exact.proofs.Inequality.{scale-le, le-abs, minus-at-most}
 use Rattle.exact.proofs.Defined.{value-defined}
-use Rattle.exact.proofs.Relative.{relative-loosen, relative-product, relative-absolute}
-use Rattle.exact.proofs.UnitRoundoff.{sub-relative, mul-relative, div-relative, roundoff}
-use Rattle.exact.proofs.Signs.{abs-at-most, difference-nonnegative, relative-nonnegative}
-use Rattle.exact.proofs.Analyser.{Bound, Expr, var, constant, minus, times, over, Approximates, constantOf, analyse, certified, plain, evalFloat, evalExact}
-use Rattle.exact.proofs.Soundness.{plainly}
-use Rattle.exact.proofs.Inputs.{range, input, covers, one, one-input, two, two-inputs, bounded, concludes, concluded}
-use Rattle.exact.proofs.OwnRange.{widened, own-range, approximates-finite}
+use Rattle.rounding.proofs.Relative.{relative-loosen, relative-product, relative-absolute}
+use Rattle.rounding.proofs.UnitRoundoff.{sub-relative, mul-relative, div-relative, roundoff}
+use Rattle.rounding.proofs.Signs.{abs-at-most, difference-nonnegative, relative-nonnegative}
+use Rattle.rounding.proofs.Analyser.{Bound, Expr, var, constant, minus, times, over, Approximates, constantOf, analyse, certified, plain, evalFloat, evalExact}
+use Rattle.rounding.proofs.Soundness.{plainly}
+use Rattle.rounding.proofs.Inputs.{range, input, covers, one, one-input, two, two-inputs, bounded, concludes, concluded}
+use Rattle.rounding.proofs.OwnRange.{widened, own-range, approximates-finite}
 use Rattle.floor.proofs.Phase.{phase-finite}
 use Rattle.walk.specs.Formula.{limitOf}
 use Rattle.walk.specs.Exact.{limitℚ}

@@ -14,12 +14,12 @@ use Rattle.exact.specs.Fraction.{Fraction, ratio, signed, _*ℚ_, _≤ℚ_}
 use Rattle.exact.specs.Value.{value}
 use Rattle.exact.proofs.Parts.{num⁺, num⁻, neg⁺, neg⁻, mul⁺, mul⁻}
 use Rattle.exact.proofs.Order.{≤ℚ-parts, parts-≤ℚ}
-use Rattle.exact.proofs.UnitRoundoff.{neither}
-use Rattle.exact.proofs.Quanta.{quanta-value}
-use Rattle.exact.proofs.Operations.{of-value}
-use Rattle.exact.proofs.Rounding.{round-value}
-use Rattle.exact.proofs.RoundingTheorems.{round-finite, whole-relative}
-use Rattle.exact.proofs.Signs.{nonnegative}
+use Rattle.rounding.proofs.UnitRoundoff.{neither}
+use Rattle.rounding.proofs.Quanta.{quanta-value}
+use Rattle.rounding.proofs.Operations.{of-value}
+use Rattle.rounding.proofs.Rounding.{round-value}
+use Rattle.rounding.proofs.RoundingTheorems.{round-finite, whole-relative}
+use Rattle.rounding.proofs.Signs.{nonnegative}
 
 -- ---- fractions
 pub product-nonnegative : (a b : Fraction) → ratio 0 1 ≤ℚ a → ratio 0 1 ≤ℚ b → ratio 0 1 ≤ℚ a *ℚ b

@@ -19,12 +19,12 @@ use Rattle.exact.proofs.Defined.{value-defined}
 use Rattle.exact.proofs.Order.{≤ℚ-parts, parts-≤ℚ, ≤ℚ-trans, ≤ℚ-total, sum-raise-left, AtMost, at-most-refl, at-most-trans, at-most-equal, equal-refl, equal-sym, equal-at-most, equal-within, within-sym, within-negate, within-triangle, within-loosen, within-equal-left, within-equal-right, lt-at-most, nlt-at-most}
 use Rattle.exact.proofs.Inequality.{minus-at-most}
 use Rattle.exact.proofs.Lipschitz.{upward, downward, before-best, min-is-min, max-is-max, abs-is-max, whole-over}
-use Rattle.exact.proofs.UnitRoundoff.{neg-value, add-relative}
-use Rattle.exact.proofs.Relative.{relative-absolute}
-use Rattle.exact.proofs.Analyser.{Bound, Expr, var, plus, minus, Approximates, analyse, certified, plain, evalFloat, evalExact}
-use Rattle.exact.proofs.Soundness.{plainly}
-use Rattle.exact.proofs.Inputs.{own-near, covers, two, two-inputs, bounded, concludes, concluded, result}
-use Rattle.exact.proofs.OwnRange.{own-range}
+use Rattle.rounding.proofs.UnitRoundoff.{neg-value, add-relative}
+use Rattle.rounding.proofs.Relative.{relative-absolute}
+use Rattle.rounding.proofs.Analyser.{Bound, Expr, var, plus, minus, Approximates, analyse, certified, plain, evalFloat, evalExact}
+use Rattle.rounding.proofs.Soundness.{plainly}
+use Rattle.rounding.proofs.Inputs.{own-near, covers, two, two-inputs, bounded, concludes, concluded, result}
+use Rattle.rounding.proofs.OwnRange.{own-range}
 use Rattle.math.specs.Formulas.{clampOf}
 use Rattle.lfo_shapes.proofs.ShapeError.{InRange}
 use Rattle.walk.specs.Exact.{heldℚ}

@@ -10,7 +10,7 @@ use Rattle.exact.specs.Fraction.{Fraction, ratio, _-ℚ_, _*ℚ_, _≤ℚ_}
 use Rattle.exact.specs.Value.{value, Within}
 use Rattle.exact.specs.Binary32.{_⊖_, _⊗_, one₃₂}
 use Rattle.exact.proofs.Order.{≤ℚ-trans, parts-≤ℚ, within-loosen}
-use Rattle.exact.proofs.Inputs.{result}
+use Rattle.rounding.proofs.Inputs.{result}
 use Rattle.math.specs.Formulas.{minOf}
 use Rattle.floor.proofs.Phase.{Phase}
 use Rattle.settings.specs.declared.LfoShape.{LfoShape}
