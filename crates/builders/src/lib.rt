@@ -1,12 +1,13 @@
 // The generator of a shape, and of the bytes that a shape is made of: a builder for each kind.
 ghost use mathlib.Core.Path.{_≡_};
 ghost use mathlib.Core.Bool.{true, false};
-ghost use Rattle.settings.specs.Settings.{envelopeOf, lfoOf, fadeOf, lowPassOf, highPassOf, oscillatorOneOf, oscillatorTwoOf, noiseOf};
+ghost use Rattle.settings.specs.Settings.{lfoOf, fadeOf, lowPassOf, highPassOf, oscillatorOneOf, oscillatorTwoOf, noiseOf};
+ghost use Rattle.envelope_settings.specs.Formula.{envelopeOf};
 ghost use Rattle.generator.specs.Generator.{scaleOf, generatorOf};
+use envelope_settings::envelope_from;
 use generator::Generator;
 use generator::Scale;
 use generator::Shape;
-use settings::envelope_from;
 use settings::fade_from;
 use settings::high_pass;
 use settings::lfo_from;

@@ -5,7 +5,8 @@ use Prim.Native.Nat.{ℕ}
 use lib.Dec.{T, eqb}
 use lib.Ieee.{ofBits, ofInt, add, div, lt, le, eq}
 use Rattle.lists.proofs.Rows.{allPass}
-use Rattle.settings.specs.Settings.{byteOf, totalOf, firstOf, secondOf, thirdOf, envelopeOf}
+use Rattle.settings.specs.Settings.{byteOf}
+use Rattle.envelope_settings.specs.Formula.{totalOf, firstOf, secondOf, thirdOf, envelopeOf}
 use Rattle.generator.specs.declared.Shape.the-variants.{Envelope as AnEnvelope}
 use Rattle.marks.specs.Marks.{segmentNumber, envelopeMarks}
 use Rattle.strip.specs.Strip.{samplePosition}

@@ -4,8 +4,10 @@ use mathlib.Core.Bool.{Bool, not}
 use Prim.Native.Nat.{ℕ, _<_}
 use lib.Dec.{T}
 use lib.Ieee.{ofBits, ofInt, div, le}
-use Rattle.settings.specs.Settings.{byteOf, envelopeOf, lfoOf, fadeOf, lowPassOf, highPassOf, oscillatorOneOf, oscillatorTwoOf, noiseOf}
-use Rattle.settings.proofs.Given.{envelope-range, fade-range, low-pass-range, high-pass-range, oscillator-one-range, oscillator-two-range, noise-range}
+use Rattle.settings.specs.Settings.{byteOf, lfoOf, fadeOf, lowPassOf, highPassOf, oscillatorOneOf, oscillatorTwoOf, noiseOf}
+use Rattle.envelope_settings.specs.Formula.{envelopeOf}
+use Rattle.settings.proofs.Given.{fade-range, low-pass-range, high-pass-range, oscillator-one-range, oscillator-two-range, noise-range}
+use Rattle.envelope_settings.proofs.Given.{envelope-range}
 use Rattle.lfo.proofs.Steps.{slew-above}
 use Rattle.lfo.proofs.LfoDrawn.{walk-range}
 use Rattle.generator.specs.declared.Shape.the-variants.{Envelope as AnEnvelope, Fade as AFade, Lfo as AnLfo, Filter as AFilter, Oscillator as AnOscillator, Noise as ANoise}

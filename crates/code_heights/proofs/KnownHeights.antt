@@ -14,12 +14,14 @@ use Rattle.exp2.specs.Formula.{exp2Scale, exp2Coefficients, exp2Within, exp2Of}
 use Rattle.lists.proofs.Rows.{allPass}
 use Rattle.curve.specs.declared.Height.{Height}
 use Rattle.curve.specs.Curve.{positionOf, drawnOf}
-use Rattle.settings.specs.Settings.{byteOf, totalOf, firstOf, secondOf, thirdOf, slopeOf, sloped, sustainEndOf, bendOf, envelopeOf, lfoShapeOf, turnsOf, lfoOf, fadeOf, depthOf, widthOf, sweepOf, oscillatorOneOf, oscillatorTwoOf}
+use Rattle.settings.specs.Settings.{byteOf, lfoShapeOf, turnsOf, lfoOf, fadeOf, depthOf, widthOf, sweepOf, oscillatorOneOf, oscillatorTwoOf}
+use Rattle.envelope_settings.specs.Formula.{totalOf, firstOf, secondOf, thirdOf, slopeOf, sloped, sustainEndOf, bendOf, envelopeOf}
 use Rattle.envelope.specs.Formula.{divideOf, denominatorOf, bentUnit, bentOf, attackOf, decayOf, sustainOf, releaseOf, envelopeLevelOf, envelopeHeightOf}
 use Rattle.fade.specs.Formula.{fadeLevelOf, fadeHeightOf}
 use Rattle.oscillator.specs.Formula.{sawOf, pulseOf, addedOf, sumOf, wavesOf, oscillatorLevelOf, oscillatorHeightOf}
 use Rattle.lfo_shapes.specs.Formula.{wrapOf, samples, sampleOf, indexOf, sampledOf, triangleOf, squareOf, rampUpOf, glideOf, shapeAtOf}
-use Rattle.lfo.specs.Formula.{stepOf, placeOf, fullFrom, fullSteps, walkedOf, lfoHeightOf}
+use Rattle.walk.specs.Formula.{stepOf, placeOf, fullFrom, fullSteps, walkedOf}
+use Rattle.lfo.specs.Formula.{lfoHeightOf}
 use Rattle.generator.specs.declared.Shape.{Shape}
 use Rattle.generator.specs.declared.Shape.the-variants.{Envelope as AnEnvelope, Fade as AFade, Lfo as AnLfo, Oscillator as AnOscillator}
 use Rattle.generator.specs.Heights.{heightOf}

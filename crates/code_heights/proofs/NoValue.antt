@@ -30,8 +30,9 @@ use Rattle.noise.specs.Formula.{noiseAtOf}
 use Rattle.noise.specs.Exact.{noiseℚ, noiseHeightℚ}
 use Rattle.filter.specs.Exact.{mirroredℚ, octavesℚ, twicePolesℚ, squaredℚ, logℚ, distanceℚ, peakℚ, scaledℚ, filterLevelℚ, filterHeightℚ}
 use Rattle.lfo_shapes.specs.Exact.{shapeℚ}
-use Rattle.lfo.specs.Formula.{stepOf, placeOf, fullFrom, fullSteps}
-use Rattle.lfo.specs.Exact.{limitℚ, heldℚ, movedℚ, levelAfterℚ, cutAfterℚ, lfoHeightℚ}
+use Rattle.walk.specs.Formula.{stepOf, placeOf, fullFrom, fullSteps}
+use Rattle.walk.specs.Exact.{limitℚ, heldℚ, movedℚ, levelAfterℚ, cutAfterℚ}
+use Rattle.lfo.specs.Exact.{lfoHeightℚ}
 use Rattle.generator.specs.declared.Shape.{Shape}
 use Rattle.generator.specs.declared.Shape.the-variants.{Envelope as AnEnvelope, Fade as AFade, Lfo as AnLfo, Filter as AFilter, Oscillator as AnOscillator, Noise as ANoise}
 use Rattle.generator.specs.Heights.{heightℚ}

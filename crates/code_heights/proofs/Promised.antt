@@ -8,7 +8,7 @@ use Rattle.exact.specs.Fraction.{Fraction, ratio}
 use Rattle.exact.specs.Binary32.{zero₃₂}
 use Rattle.curve.specs.declared.Height.{Height}
 use Rattle.curve.specs.Curve.{Drawn}
-use Rattle.lfo.specs.Steps.{Steps}
+use Rattle.walk.specs.Steps.{Steps}
 use Rattle.generator.specs.declared.Shape.{Shape}
 use Rattle.generator.specs.declared.Shape.the-variants.{Envelope as AnEnvelope, Fade as AFade, Lfo as AnLfo, Filter as AFilter, Oscillator as AnOscillator, Noise as ANoise}
 use Rattle.generator.specs.Heights.{heightOf, heightℚ, walkPhase}

@@ -8,7 +8,7 @@ use Rattle.exact.specs.Fraction.{Fraction, ratio}
 use Rattle.curve.specs.declared.Height.{Height}
 use Rattle.curve.specs.Curve.{Drawn}
 use Rattle.settings.specs.Settings.{isOn}
-use Rattle.lfo.specs.Steps.{Steps}
+use Rattle.walk.specs.Steps.{Steps}
 use Rattle.generator.specs.Heights.{heightℚ, walkPhase}
 use Rattle.codes.specs.declared.Code.{Code}
 use Rattle.codes.specs.declared.Code.the-variants.{Envelope, Lfo, LfoUnipolar, Fade, LowPass, HighPass, Oscillator, Noise}

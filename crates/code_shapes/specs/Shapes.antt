@@ -4,7 +4,8 @@ use Prim.Native.Nat.{ℕ, _+_}
 use Rattle.settings.specs.declared.Envelope.{Envelope}
 use Rattle.settings.specs.declared.Lfo.{Lfo}
 use Rattle.settings.specs.declared.Oscillator.{Oscillator}
-use Rattle.settings.specs.Settings.{envelopeOf, lfoOf, fadeOf, lowPassOf, highPassOf, oscillatorOneOf, oscillatorTwoOf, noiseOf}
+use Rattle.settings.specs.Settings.{lfoOf, fadeOf, lowPassOf, highPassOf, oscillatorOneOf, oscillatorTwoOf, noiseOf}
+use Rattle.envelope_settings.specs.Formula.{envelopeOf}
 use Rattle.generator.specs.declared.Shape.{Shape}
 use Rattle.generator.specs.declared.Shape.the-variants.{Envelope as AnEnvelope, Fade as AFade, Lfo as AnLfo, Filter as AFilter, Oscillator as AnOscillator, Noise as ANoise}
 use Rattle.codes.specs.declared.OscillatorId.{OscillatorId}

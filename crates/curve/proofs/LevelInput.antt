@@ -2,8 +2,8 @@
 use lib.Ieee.{Float, binary32, ofBits}
 use Rattle.exact.specs.Value.{value}
 use Rattle.exact.specs.Binary32.{zero₃₂, one₃₂}
-use Rattle.exact.proofs.Analyser.{Bound, Approximates, constantOf}
-use Rattle.exact.proofs.Inputs.{range, input}
+use Rattle.rounding.proofs.Analyser.{Bound, Approximates, constantOf}
+use Rattle.rounding.proofs.Inputs.{range, input}
 use Rattle.curve.proofs.Positions.{Level}
 
 unfoldable pub unit : Bound

@@ -17,19 +17,19 @@ use Rattle.exact.specs.Binary32.{_⊘_, bits, zero₃₂, quarter₃₂, one₃
 use Rattle.exact.proofs.Close.{ring}
 use Rattle.exact.proofs.Parts.{num⁺, num⁻, mul⁺, mul⁻, sum-parts, difference-parts}
 use Rattle.exact.proofs.Order.{≤ℚ-parts, parts-≤ℚ, ≤ℚ-trans, le-value, between-finite, lt-at-most, nlt-at-most}
-use Rattle.exact.proofs.Quanta.{quanta-defined}
+use Rattle.rounding.proofs.Quanta.{quanta-defined}
 use Rattle.exact.proofs.Lipschitz.{unit-at-most-one, zero-at-most-unit}
-use Rattle.exact.proofs.Bounds.{lower-at, upper-at}
-use Rattle.exact.proofs.Analyser.{Bound, Expr, var, constant, plus, minus, times, quotient, clamped, Approximates, Lower, constantOf, analyse, plain, evalFloat, evalExact, Facts}
-use Rattle.exact.proofs.Soundness.{plainly}
-use Rattle.exact.proofs.Inputs.{range, input, one, one-input, two, two-inputs, covers, concludes, concluded}
+use Rattle.rounding.proofs.Bounds.{lower-at, upper-at}
+use Rattle.rounding.proofs.Analyser.{Bound, Expr, var, constant, plus, minus, times, quotient, clamped, Approximates, Lower, constantOf, analyse, plain, evalFloat, evalExact, Facts}
+use Rattle.rounding.proofs.Soundness.{plainly}
+use Rattle.rounding.proofs.Inputs.{range, input, one, one-input, two, two-inputs, covers, concludes, concluded}
 use Rattle.math.specs.Formulas.{clampOf}
 use Rattle.curve.specs.Curve.{clampUnitOf}
 use Rattle.settings.proofs.Ranges.{BendRange}
 use Rattle.envelope.specs.Formula.{denominatorOf, bentUnit, bentOf}
 use Rattle.envelope.specs.Exact.{denominatorℚ, bentℚ}
-use Rattle.exact.proofs.Signs.{Positive, parts-positive, nonnegative, quotient-nonnegative, quotient-at-most-one}
-use Rattle.exact.proofs.FloatBounds.{near-positive, positive-test}
+use Rattle.rounding.proofs.Signs.{Positive, parts-positive, nonnegative, quotient-nonnegative, quotient-at-most-one}
+use Rattle.rounding.proofs.FloatBounds.{near-positive, positive-test}
 use Rattle.envelope.proofs.DivideError.{divideBound, unit-fits}
 
 -- ---- THE EXACT DENOMINATOR u + k (1 - u), u = p / d from 0 to 1 and k = q / c not negative: with y = d - p it is (p c + q y) d / (d c d)

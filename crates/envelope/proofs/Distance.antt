@@ -14,9 +14,9 @@ use Rattle.exact.specs.Value.{value}
 use Rattle.exact.specs.Binary32.{zero₃₂, one₃₂}
 use Rattle.exact.proofs.Defined.{value-defined, choice-is}
 use Rattle.exact.proofs.Order.{le-value, lt-value, lt-at-most, nlt-at-most}
-use Rattle.exact.proofs.Analyser.{Bound, Expr, var, constant, plus, minus, times, Approximates, analyse, plain, evalFloat, evalExact}
-use Rattle.exact.proofs.Soundness.{plainly}
-use Rattle.exact.proofs.Inputs.{range, two, two-inputs, three, three-inputs, covers, relax, concludes, concluded, result}
+use Rattle.rounding.proofs.Analyser.{Bound, Expr, var, constant, plus, minus, times, Approximates, analyse, plain, evalFloat, evalExact}
+use Rattle.rounding.proofs.Soundness.{plainly}
+use Rattle.rounding.proofs.Inputs.{range, two, two-inputs, three, three-inputs, covers, relax, concludes, concluded, result}
 use Rattle.curve.specs.Curve.{positionOf, drawnOf, Drawn}
 use Rattle.curve.proofs.Positions.{Level, position-level}
 use Rattle.curve.proofs.Clamped.{drawn-near}

@@ -16,18 +16,18 @@ use Rattle.exact.proofs.Defined.{value-defined, given-is, choice-is}
 use Rattle.exact.proofs.Order.{parts-≤ℚ, ≤ℚ-trans, sum-raise-left, equal-refl, equal-sym, equal-within, within-triangle, within-loosen, within-equal-left, le-value, between-finite}
 use Rattle.exact.proofs.Inequality.{nlt-le}
 use Rattle.exact.proofs.Lipschitz.{unit-within, unit-value, unit-at-most-one, zero-at-most-unit}
-use Rattle.exact.proofs.Relative.{relative-quotient, relative-absolute}
-use Rattle.exact.proofs.UnitRoundoff.{sub-relative}
-use Rattle.exact.proofs.Bounds.{lower-at, upper-at}
-use Rattle.exact.proofs.Analyser.{Bound, Expr, var, minus, quotient, Approximates, constantOf, analyse, certified, plain, evalFloat, evalExact, Facts}
-use Rattle.exact.proofs.Soundness.{plainly}
-use Rattle.exact.proofs.Inputs.{range, input, own-near, two, two-inputs, bounded}
+use Rattle.rounding.proofs.Relative.{relative-quotient, relative-absolute}
+use Rattle.rounding.proofs.UnitRoundoff.{sub-relative}
+use Rattle.rounding.proofs.Bounds.{lower-at, upper-at}
+use Rattle.rounding.proofs.Analyser.{Bound, Expr, var, minus, quotient, Approximates, constantOf, analyse, certified, plain, evalFloat, evalExact, Facts}
+use Rattle.rounding.proofs.Soundness.{plainly}
+use Rattle.rounding.proofs.Inputs.{range, input, own-near, two, two-inputs, bounded}
 use Rattle.math.specs.Formulas.{clampOf}
 use Rattle.curve.specs.Curve.{clampUnitOf}
 use Rattle.envelope.specs.Formula.{divideOf}
 use Rattle.envelope.specs.Exact.{divideℚ}
-use Rattle.exact.proofs.Signs.{Positive, positive-abs, abs-at-most, difference-positive, difference-nonnegative, difference-nonpositive, difference-monotone, relative-nonpositive, relative-nonnegative, relative-positive, quotient-nonnegative, quotient-at-most-one}
-use Rattle.exact.proofs.FloatBounds.{within-near, positive-quantum, finite-upper, positive-test}
+use Rattle.rounding.proofs.Signs.{Positive, positive-abs, abs-at-most, difference-positive, difference-nonnegative, difference-nonpositive, difference-monotone, relative-nonpositive, relative-nonnegative, relative-positive, quotient-nonnegative, quotient-at-most-one}
+use Rattle.rounding.proofs.FloatBounds.{within-near, positive-quantum, finite-upper, positive-test}
 
 -- ---- A NARROW STRETCH, computed: the float after 1 lies a third of the way from 1 to the third float after it
 divide-narrow : T (ltℚ (absℚ (value (divideOf (bits 0x3f80_0001) one₃₂ (bits 0x3f80_0003)) -ℚ ratio 1 3)) (ratio 4 (2 ^ 24)))

@@ -16,9 +16,12 @@ use lib.Ieee.Fits.{down-pos}
 use lib.Ieee.Scale.{finite}
 use Rattle.exact.specs.Fraction.{Fraction, Defined, powerOfTwo, over, _+ℚ_, negℚ, _-ℚ_, _*ℚ_, _/ℚ_, ltℚ, minℚ, maxℚ, absℚ, clampUnitℚ, floorℚ, given, ifBelow, atFloor}
 use Rattle.exact.specs.Value.{value}
-use Rattle.exact.proofs.Operations.{first-pos}
 
 -- ---- a product is above 0 exactly where both factors are
+pub first-pos : (b U : ℕ) → 0 < b * U → 0 < b
+first-pos zero U h = omega arith
+first-pos (suc b) U h = omega arith
+
 pub factors-pos : (c d : ℕ) → (0 < c * d) ↔ ((0 < c) × (0 < d))
 factors-pos c d = (λ h. (first-pos c d h, first-pos d c (omega arith)), λ h. mul-pos (h .0) (h .1))
 

@@ -9,8 +9,7 @@ use lib.IntN.{ℤ, pos, negsuc, _-ℤ_}
 use Rattle.exact.specs.Fraction.{Fraction, Defined, whole, floorℚ, ltℚ, _+ℚ_, _-ℚ_, _≤ℚ_}
 use Rattle.exact.specs.Value.{Equal}
 use Rattle.exact.proofs.Parts.{part⁺, part⁻, num⁺, num⁻, add-parts, sum-parts, difference-parts}
-use Rattle.exact.proofs.Order.{≤ℚ-parts, ltℚ-parts, parts-≡ℤ}
-use Rattle.exact.proofs.Quanta.{equal⁺, equal⁻}
+use Rattle.exact.proofs.Order.{≤ℚ-parts, ltℚ-parts, parts-≡ℤ, equal⁺, equal⁻}
 use Rattle.exact.proofs.Floor.{floor-below, floor-above}
 
 -- z ≤ a < z + 1, in naturals

@@ -1,5 +1,4 @@
--- Why a float formula is near its exact value: fractions and their order, rounding and the operations, exact operations, relative errors, and an
--- error analyser with its soundness theorem.
+-- Fractions: what is defined, their order and distance, the laws of their operations, and the floor.
 pub mod Close
 pub mod Parts
 pub mod Defined
@@ -8,26 +7,3 @@ pub mod Inequality
 pub mod Lipschitz
 pub mod Floor
 pub mod FloorUnique
-pub mod Rounding
-pub mod Operations
-pub mod Quanta
-pub mod Comparison
-pub mod Monotone
-pub mod RoundingTheorems
-pub mod Sterbenz
-pub mod Fract
-pub mod Relative
-pub mod Signs
-pub mod UnitRoundoff
-pub mod Propagation
-pub mod Analyser
-pub mod Clamp
-pub mod StepSums
-pub mod StepQuotients
-pub mod StepLeaves
-pub mod Soundness
-pub mod Bounds
-pub mod Inputs
-pub mod FloatBounds
-pub mod OwnRange
-pub mod Demonstration

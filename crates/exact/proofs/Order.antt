@@ -2,7 +2,7 @@
 -- (Parts.antt), so that a ≤ b, multiplied across, is `cross a b ≤ cross b a` between naturals, and a ≤ b + q is `BelowSum a b q`; each law is one
 -- of products of naturals, with a denominator above 0 cancelled where it says that a fraction is defined. The comparison of two finite floats
 -- decides the same inequality as the comparison of their values, so the two agree. Assumes nothing.
-use mathlib.Core.Path.{_≡_, refl, sym, ap}
+use mathlib.Core.Path.{_≡_, refl, sym, ap, _∙_}
 use mathlib.Core.Logic.{_↔_, _⊎_, inl, inr}
 use mathlib.Core.Bool.{Bool, true, false, not, cond, _&&_, _||_}
 use Prim.Native.Nat.{ℕ, suc, _+_, _*_, _≤_, _<_}
@@ -108,6 +108,12 @@ parts-≡ℤ (pos a) (pos b) e = ap pos (omega arith)
 parts-≡ℤ (pos a) (negsuc b) e = absurd (sides-apart a b e)
 parts-≡ℤ (negsuc a) (pos b) e = absurd (sides-apart b a (sym e))
 parts-≡ℤ (negsuc a) (negsuc b) e = ap negsuc (omega arith)
+
+pub equal⁺ : {a b : Fraction} → Equal a b → num⁺ a * b .den ≡ num⁺ b * a .den
+equal⁺ {a} {b} h = sym (scale⁺ (a .num) (b .den)) ∙ ap part⁺ (h .same) ∙ scale⁺ (b .num) (a .den)
+
+pub equal⁻ : {a b : Fraction} → Equal a b → num⁻ a * b .den ≡ num⁻ b * a .den
+equal⁻ {a} {b} h = sym (scale⁻ (a .num) (b .den)) ∙ ap part⁻ (h .same) ∙ scale⁻ (b .num) (a .den)
 
 pub equal-parts : {a b : Fraction} → Equal a b → cross a b ≡ cross b a
 equal-parts {a} {b} e = omega (arith, simp scale⁺ at (ap part⁺ (e .same)), simp scale⁻ at (ap part⁻ (e .same)))

@@ -19,10 +19,10 @@ use Rattle.exact.proofs.Order.{≤ℚ-parts, parts-≤ℚ, ltℚ-parts, ≤ℚ-
 use Rattle.exact.proofs.Defined.{value-defined}
 use Rattle.exact.proofs.Floor.{floor-below, floor-above}
 use Rattle.exact.proofs.Inequality.{scale-le, grows, le-abs, lt-le}
-use Rattle.exact.proofs.Bounds.{lower-whole, upper-next}
-use Rattle.exact.proofs.Analyser.{Bound, Expr, var, approx, minus, times, Approximates, analyse, plain, certified, evalFloat, evalExact}
-use Rattle.exact.proofs.Soundness.{plainly}
-use Rattle.exact.proofs.Inputs.{one, one-input, exact-input, covers, concludes, concluded, bounded}
+use Rattle.rounding.proofs.Bounds.{lower-whole, upper-next}
+use Rattle.rounding.proofs.Analyser.{Bound, Expr, var, approx, minus, times, Approximates, analyse, plain, certified, evalFloat, evalExact}
+use Rattle.rounding.proofs.Soundness.{plainly}
+use Rattle.rounding.proofs.Inputs.{one, one-input, exact-input, covers, concludes, concluded, bounded}
 use Rattle.series.specs.Horner.{horner, hornerℚ}
 use Rattle.math.specs.Formulas.{clampOf}
 use Rattle.floor.specs.Formula.{floorOf, fractOf}

@@ -16,9 +16,9 @@ use Rattle.exact.specs.Binary32.{_⊘_, zero₃₂, one₃₂}
 use Rattle.exact.proofs.Parts.{num⁺, num⁻, part⁺, part⁻, scale⁺, scale⁻}
 use Rattle.exact.proofs.Defined.{value-defined, choice-is}
 use Rattle.exact.proofs.Order.{≤ℚ-parts, ltℚ-parts, equal-within, equal-refl, lt-value, le-value}
-use Rattle.exact.proofs.Quanta.{quanta-value}
-use Rattle.exact.proofs.Analyser.{Bound, Expr, var, quotient, Approximates, Lower, Upper, Facts, evalFloat, evalExact, analyse, certified}
-use Rattle.exact.proofs.Inputs.{range, two, two-inputs, bounded}
+use Rattle.rounding.proofs.Quanta.{quanta-value}
+use Rattle.rounding.proofs.Analyser.{Bound, Expr, var, quotient, Approximates, Lower, Upper, Facts, evalFloat, evalExact, analyse, certified}
+use Rattle.rounding.proofs.Inputs.{range, two, two-inputs, bounded}
 use Rattle.curve.specs.Curve.{positionOf, drawnOf, Drawn}
 use Rattle.curve.proofs.Positions.{Level, position-level, level-finite}
 use Rattle.curve.proofs.Clamped.{drawn-near}

@@ -11,8 +11,8 @@ use Rattle.exact.specs.Value.{Within, RelativelyWithin}
 use Rattle.exact.proofs.Close.{ring, Close, times, cancel}
 use Rattle.exact.proofs.Parts.{part⁺, part⁻, num⁺, num⁻, OneSided, up, down, one-sided}
 use Rattle.exact.proofs.Order.{≤ℚ-parts, parts-≤ℚ, within-close}
-use Rattle.exact.proofs.Relative.{Relatively, relative-across}
-use Rattle.exact.proofs.Analyser.{Bound, Approximates, Lower, Upper}
+use Rattle.rounding.proofs.Relative.{Relatively, relative-across}
+use Rattle.rounding.proofs.Analyser.{Bound, Approximates, Lower, Upper}
 
 -- ---- A and B are at most n quanta apart
 pub exchange : (f : Format) (x : Float) (A B : Fraction) (b c : Bound) (n : ℕ) → Approximates f x A b → Within A B (ratio n (2 ^ low f)) → part⁺ (c .lo) + part⁻ (b .lo) + n ≤ part⁺ (b .lo) + part⁻ (c .lo)

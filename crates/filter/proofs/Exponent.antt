@@ -8,9 +8,9 @@ use lib.Ieee.{Float, binary32, ofBits, div, mul}
 use Rattle.exact.specs.Fraction.{Fraction, ratio, _-ℚ_, _*ℚ_}
 use Rattle.exact.specs.Value.{value}
 use Rattle.exact.specs.Binary32.{_⊖_, _⊗_, bits, half₃₂}
-use Rattle.exact.proofs.Analyser.{Bound, Expr, var, constant, approx, negated, minus, times, Approximates, analyse, plain, evalFloat, evalExact}
-use Rattle.exact.proofs.Soundness.{plainly}
-use Rattle.exact.proofs.Inputs.{one, one-input, covers, concludes, concluded}
+use Rattle.rounding.proofs.Analyser.{Bound, Expr, var, constant, approx, negated, minus, times, Approximates, analyse, plain, evalFloat, evalExact}
+use Rattle.rounding.proofs.Soundness.{plainly}
+use Rattle.rounding.proofs.Inputs.{one, one-input, covers, concludes, concluded}
 use Rattle.curve.proofs.Positions.{Level}
 use Rattle.curve.proofs.LevelInput.{unit, level-input}
 use Rattle.settings.specs.declared.Pass.{Pass}

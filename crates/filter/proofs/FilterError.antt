@@ -8,9 +8,9 @@ use lib.Ieee.Fits.{mul-fits, div-fits}
 use Rattle.exact.specs.Fraction.{Fraction, ratio}
 use Rattle.exact.specs.Value.{value, Within}
 use Rattle.exact.specs.Binary32.{_⊕_, _⊖_, _⊗_, zero₃₂, one₃₂}
-use Rattle.exact.proofs.Analyser.{Expr, var, constant, approx, plus, minus, times, over, Approximates, analyse, plain, certified, evalFloat, evalExact}
-use Rattle.exact.proofs.Soundness.{plainly}
-use Rattle.exact.proofs.Inputs.{two, two-inputs, bounded}
+use Rattle.rounding.proofs.Analyser.{Expr, var, constant, approx, plus, minus, times, over, Approximates, analyse, plain, certified, evalFloat, evalExact}
+use Rattle.rounding.proofs.Soundness.{plainly}
+use Rattle.rounding.proofs.Inputs.{two, two-inputs, bounded}
 use Rattle.math.specs.Formulas.{clampOf}
 use Rattle.curve.specs.Curve.{clampUnitOf, positionOf, drawnOf, Drawn}
 use Rattle.curve.proofs.Positions.{Level, position-level}

@@ -14,9 +14,9 @@ use Rattle.exact.specs.Fraction.{Fraction, ratio, _≤ℚ_}
 use Rattle.exact.specs.Value.{value}
 use Rattle.exact.specs.Binary32.{one₃₂}
 use Rattle.exact.proofs.Order.{≤ℚ-parts, ≤ℚ-total}
-use Rattle.exact.proofs.Analyser.{Bound, Expr, var, constant, approx, plus, times, over, Approximates, constantOf, analyse, plain, evalFloat, evalExact}
-use Rattle.exact.proofs.Soundness.{plainly}
-use Rattle.exact.proofs.Inputs.{range, two, two-inputs, covers, concludes, concluded}
+use Rattle.rounding.proofs.Analyser.{Bound, Expr, var, constant, approx, plus, times, over, Approximates, constantOf, analyse, plain, evalFloat, evalExact}
+use Rattle.rounding.proofs.Soundness.{plainly}
+use Rattle.rounding.proofs.Inputs.{range, two, two-inputs, covers, concludes, concluded}
 use Rattle.lists.proofs.Every.{every, each}
 use Rattle.curve.proofs.Positions.{Level}
 use Rattle.settings.specs.declared.Pass.{Pass}

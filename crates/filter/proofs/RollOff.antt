@@ -20,14 +20,14 @@ use Rattle.exact.proofs.Defined.{value-defined}
 use Rattle.exact.proofs.Parts.{num⁺, num⁻, sum-parts}
 use Rattle.exact.proofs.Order.{≤ℚ-parts, parts-≤ℚ, ≤ℚ-trans, sum-raise-left, within-loosen, lt-value, le-value}
 use Rattle.exact.proofs.Inequality.{minus-at-most, at-least-minus, lt-le}
-use Rattle.exact.proofs.Operations.{Signed, add-is}
-use Rattle.exact.proofs.Quanta.{in-format, nonnegative-quanta}
-use Rattle.exact.proofs.Signs.{relative-nonnegative}
-use Rattle.exact.proofs.Relative.{relative-loosen, relative-chain, relative-one-plus}
-use Rattle.exact.proofs.UnitRoundoff.{add-relative}
-use Rattle.exact.proofs.Analyser.{Bound, Expr, var, constant, plus, Approximates, analyse, plain, evalFloat, evalExact}
-use Rattle.exact.proofs.Soundness.{plainly}
-use Rattle.exact.proofs.Inputs.{one, one-input, covers, concludes, concluded, result}
+use Rattle.rounding.proofs.Operations.{Signed, add-is}
+use Rattle.rounding.proofs.Quanta.{in-format, nonnegative-quanta}
+use Rattle.rounding.proofs.Signs.{relative-nonnegative}
+use Rattle.rounding.proofs.Relative.{relative-loosen, relative-chain, relative-one-plus}
+use Rattle.rounding.proofs.UnitRoundoff.{add-relative}
+use Rattle.rounding.proofs.Analyser.{Bound, Expr, var, constant, plus, Approximates, analyse, plain, evalFloat, evalExact}
+use Rattle.rounding.proofs.Soundness.{plainly}
+use Rattle.rounding.proofs.Inputs.{one, one-input, covers, concludes, concluded, result}
 use Rattle.lists.proofs.Every.{every}
 use Rattle.series.specs.Horner.{horner, hornerℚ}
 use Rattle.math.specs.Formulas.{clampOf}

@@ -13,8 +13,8 @@ use Rattle.exact.specs.Value.{value}
 use Rattle.exact.specs.Binary32.{zero₃₂, one₃₂}
 use Rattle.exact.proofs.Parts.{num⁺, num⁻}
 use Rattle.exact.proofs.Order.{le-value, ≤ℚ-parts}
-use Rattle.exact.proofs.Operations.{Quanta}
-use Rattle.exact.proofs.Quanta.{in-format, nonnegative-quanta, quanta-defined, quanta-value}
+use Rattle.rounding.proofs.Operations.{Quanta}
+use Rattle.rounding.proofs.Quanta.{in-format, nonnegative-quanta, quanta-defined, quanta-value}
 use Rattle.math.proofs.Bits.{Between, bits-between, bits-quanta as quanta-by-bits}
 use Rattle.curve.proofs.Positions.{Level, level-finite}
 

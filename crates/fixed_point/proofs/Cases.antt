@@ -10,8 +10,8 @@ use lib.Ieee.{Float, nan, inf, fin, binary32, ofBits, toBits, isNan, lt}
 use Rattle.exact.specs.Fraction.{ratio, _*ℚ_}
 use Rattle.exact.specs.Value.{value}
 use Rattle.exact.specs.Binary32.{bits}
-use Rattle.exact.proofs.Operations.{Quanta}
-use Rattle.exact.proofs.Comparison.{lt-quanta, nlt-quanta}
+use Rattle.rounding.proofs.Operations.{Quanta}
+use Rattle.rounding.proofs.Comparison.{lt-quanta, nlt-quanta}
 use Rattle.curve.proofs.Positions.{Level, level-finite}
 use Rattle.fixed_point.specs.Nearest.{nearestℚ}
 use Rattle.fixed_point.proofs.Product.{product}

@@ -13,8 +13,8 @@ use Rattle.exact.specs.Fraction.{ratio, ltℚ}
 use Rattle.exact.specs.Value.{value}
 use Rattle.exact.specs.Binary32.{zero₃₂, one₃₂}
 use Rattle.exact.proofs.Order.{Decides, tests-agree, lt-value}
-use Rattle.exact.proofs.Operations.{Quanta}
-use Rattle.exact.proofs.Comparison.{lt-quanta}
+use Rattle.rounding.proofs.Operations.{Quanta}
+use Rattle.rounding.proofs.Comparison.{lt-quanta}
 use Rattle.curve.proofs.Positions.{Level, level-finite}
 use Rattle.fixed_point.proofs.Bits.{level-parts, Range, bits-quanta}
 use Rattle.fixed_point.proofs.Cases.{least, range}

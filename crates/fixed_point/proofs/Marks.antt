@@ -11,8 +11,8 @@ use Rattle.exact.specs.Fraction.{ratio, ltℚ}
 use Rattle.exact.specs.Value.{value}
 use Rattle.exact.proofs.Parts.{num⁺, num⁻}
 use Rattle.exact.proofs.Order.{Decides, ltℚ-parts, nltℚ-parts}
-use Rattle.exact.proofs.Operations.{Quanta}
-use Rattle.exact.proofs.Quanta.{quanta-defined, quanta-value}
+use Rattle.rounding.proofs.Operations.{Quanta}
+use Rattle.rounding.proofs.Quanta.{quanta-defined, quanta-value}
 
 -- ---- P - N over D is G / U
 lt-of : (P N D G U n W : ℕ) → 0 < U → 0 < D → P * U + 0 * D ≡ N * U + G * D → P * W + 0 * D < n * D + N * W → G * W < n * U

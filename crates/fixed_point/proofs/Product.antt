@@ -8,8 +8,8 @@ use lib.Ieee.{Float}
 use Rattle.exact.specs.Fraction.{ratio, _+ℚ_, _*ℚ_}
 use Rattle.exact.specs.Value.{value}
 use Rattle.exact.proofs.Parts.{part⁺, part⁻, num⁺, num⁻, scale⁺, scale⁻, sum-parts}
-use Rattle.exact.proofs.Operations.{Quanta}
-use Rattle.exact.proofs.Quanta.{quanta-defined, quanta-value}
+use Rattle.rounding.proofs.Operations.{Quanta}
+use Rattle.rounding.proofs.Quanta.{quanta-defined, quanta-value}
 use Rattle.exact.proofs.FloorUnique.{floor-unique}
 use Rattle.fixed_point.specs.Nearest.{nearestℚ}
 

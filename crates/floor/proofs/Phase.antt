@@ -13,7 +13,7 @@ use Rattle.exact.proofs.Parts.{num⁺, num⁻, sum-parts}
 use Rattle.exact.proofs.Defined.{value-defined}
 use Rattle.exact.proofs.Order.{≤ℚ-parts, parts-≤ℚ}
 use Rattle.exact.proofs.Floor.{floor-below, floor-above}
-use Rattle.exact.proofs.Fract.{fract-exact, fract-exact-negative}
+use Rattle.rounding.proofs.Fract.{fract-exact, fract-exact-negative}
 use Rattle.exact.proofs.Inequality.{minus-at-most, at-least-minus, lt-le}
 use Rattle.floor.specs.Formula.{floorOf, fractOf}
 use Rattle.floor.specs.Exact.{fractℚ}

@@ -3,18 +3,16 @@
 use mathlib.Core.Path.{_≡_, sym, subst}
 use mathlib.Core.Logic.{_⊎_, inl, inr}
 use mathlib.Core.Bool.{Bool, true, false, not, cond, _||_}
-use Prim.Native.Nat.{ℕ, suc, _≤_, _<_}
-use native.Mathlib.Omega.{arith}
+use Prim.Native.Nat.{ℕ, _<_}
 use lib.Dec.{T}
 use lib.Ieee.{Float, binary32, ofBits, ofInt, fits, le, div}
-use Rattle.exact.specs.Fraction.{ratio, clampUnitℚ, _≤ℚ_}
+use Rattle.exact.specs.Fraction.{ratio, clampUnitℚ}
 use Rattle.exact.specs.Value.{value}
 use Rattle.exact.specs.Binary32.{_⊗_, bits, zero₃₂}
 use Rattle.exact.proofs.Defined.{value-defined, given-is}
-use Rattle.exact.proofs.Order.{or-cases, lt-at-most}
+use Rattle.exact.proofs.Order.{or-cases}
 use Rattle.lists.proofs.Every.{every, each}
 use Rattle.curve.specs.Curve.{positionOf, drawnOf, Drawn}
-use Rattle.curve.proofs.Clamped.{drawn-near}
 use Rattle.settings.specs.declared.LfoShape.{LfoShape}
 use Rattle.settings.specs.declared.Lfo.{Lfo}
 use Rattle.settings.specs.Settings.{turnsOf, byteOf, lfoOf}
@@ -25,13 +23,12 @@ use Rattle.lfo_shapes.specs.Formula.{shapeAtOf}
 use Rattle.lfo_shapes.specs.Exact.{shapeℚ}
 use Rattle.lfo_shapes.proofs.ShapeError.{shape-drawn}
 use Rattle.lfo_shapes.proofs.DrawnPhase.{Spanned, position-spanned}
-use Rattle.lfo.specs.Formula.{placeOf, limitOf, cutAfter, fullSteps, walkedOf, lfoHeightOf}
-use Rattle.lfo.specs.Exact.{limitℚ, cutAfterℚ, lfoHeightℚ}
-use Rattle.lfo.specs.Steps.{Steps}
-use Rattle.lfo.proofs.MostError.{Slew}
-use Rattle.lfo.proofs.Places.{place-finite}
-use Rattle.lfo.proofs.Steps.{steps-at}
-use Rattle.lfo.proofs.WalkError.{cut-near, walk-near}
+use Rattle.walk.specs.Formula.{fullSteps, walkedOf}
+use Rattle.walk.specs.Exact.{limitℚ, cutAfterℚ}
+use Rattle.walk.proofs.MostError.{Slew}
+use Rattle.walk.proofs.WalkDrawn.{walked-drawn}
+use Rattle.lfo.specs.Formula.{lfoHeightOf}
+use Rattle.lfo.specs.Exact.{lfoHeightℚ}
 
 -- ---- WHAT THE WALK USES OF AN LFO: a slew is 0, or from 1/255 to 1
 pub record WalkRange (l : Lfo) : Type 0 where
@@ -65,30 +62,6 @@ unslewed : (s : LfoShape) (t turns : Float) → T (fits binary32 t) → turns �
     → Drawn (drawnOf (shapeAtOf s (positionOf t ⊗ turns)) .height) (clampUnitℚ (shapeℚ s (value (positionOf t ⊗ turns)))) (ratio 1 262144)
 unslewed s t turns f e =
     subst (λ (x : Float). Drawn (drawnOf (shapeAtOf s (positionOf t ⊗ x)) .height) (clampUnitℚ (shapeℚ s (value (positionOf t ⊗ x)))) (ratio 1 262144)) (sym e) (shape-drawn s t f)
-
--- ---- AT A SLEW ABOVE 0, the walk's: its full steps end at or below the phase
-passed : (phase : Float) (n : ℕ) → Spanned phase → Steps phase (suc n) → value (placeOf n) ≤ℚ value phase
-passed phase n p s = lt-at-most (placeOf n) phase (place-finite n (lower n (s .most))) (p .number) (s .first n (upper n (s .least)) (next n)) .le
-  where
-    lower : (n : ℕ) → suc n ≤ 672 → n ≤ 672
-    lower n h = omega arith
-
-    upper : (n : ℕ) → 96 ≤ suc n → 1 ≤ n
-    upper n h = omega arith
-
-    next : (n : ℕ) → n < suc n
-    next n = omega arith
-
-walked-drawn : (l : Lfo) (phase : Float) → Slew (l .slew) → Spanned phase
-    → Drawn (walkedOf l phase .height) (clampUnitℚ (cutAfterℚ (l .shape) (limitℚ (value (l .slew))) phase (fullSteps phase))) (ratio 1 4096)
-unfolding walkedOf
-walked-drawn l phase h p =
-    let n = fullSteps phase in
-    let k = steps-at phase p in
-    let u = passed phase n p k in
-    let x = cutAfter (l .shape) (limitOf (l .slew)) phase n in
-    let X = cutAfterℚ (l .shape) (limitℚ (value (l .slew))) phase n in
-    unfold drawnOf in drawn-near x X 1 4096 (cut-near (l .shape) (l .slew) phase n h p (k .most) u .holds) (walk-near (l .shape) (l .slew) phase n h p (k .most) u)
 
 -- THE HEIGHT
 pub lfo-drawn : (l : Lfo) (t : Float) → WalkRange l → T (fits binary32 t) → Drawn (lfoHeightOf l t .height) (lfoHeightℚ l t) (cond (le (l .slew) zero₃₂) (ratio 1 262144) (ratio 1 4096))

@@ -1,12 +1,4 @@
--- The slew walk: the loop's count, the positions, the steps; a step's cost and the whole walk's, and the height's distance; heights held against the Rust.
-pub mod Counts
-pub mod Places
+-- An LFO's height: its steps, its distance, and heights held against the Rust.
 pub mod Steps
-pub mod HeldStep
-pub mod ProductSign
-pub mod Advances
-pub mod MostError
-pub mod StepError
-pub mod WalkError
 pub mod LfoDrawn
 pub mod Examples

@@ -1,4 +1,3 @@
--- The slew walk, in binary32 and exactly, and its steps.
+-- The height of an LFO, in binary32 and exactly.
 pub mod Formula
 pub mod Exact
-pub mod Steps

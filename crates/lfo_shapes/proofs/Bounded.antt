@@ -19,11 +19,11 @@ use Rattle.exact.proofs.Defined.{value-defined, choice-is, at-floor-is}
 use Rattle.exact.proofs.Parts.{num⁺, num⁻, sum-parts}
 use Rattle.exact.proofs.Order.{≤ℚ-parts, parts-≤ℚ, ≤ℚ-trans, equal-refl, equal-sym, equal-at-most}
 use Rattle.exact.proofs.Inequality.{minus-at-most, at-least-minus, lt-le, nlt-le, scale-le}
-use Rattle.exact.proofs.Bounds.{lower-at, upper-at}
-use Rattle.exact.proofs.Analyser.{Bound, Expr, var, constant, plus, minus, times, truncated, enclosed, Approximates, Facts, plain, evalFloat, evalExact, analyse, Lower, Upper}
-use Rattle.exact.proofs.Soundness.{plainly}
-use Rattle.exact.proofs.Inputs.{one, three, one-input, three-inputs, exact-input, covers, relax, concludes, concluded}
-use Rattle.exact.proofs.Fract.{floor-negative}
+use Rattle.rounding.proofs.Bounds.{lower-at, upper-at}
+use Rattle.rounding.proofs.Analyser.{Bound, Expr, var, constant, plus, minus, times, truncated, enclosed, Approximates, Facts, plain, evalFloat, evalExact, analyse, Lower, Upper}
+use Rattle.rounding.proofs.Soundness.{plainly}
+use Rattle.rounding.proofs.Inputs.{one, three, one-input, three-inputs, exact-input, covers, relax, concludes, concluded}
+use Rattle.rounding.proofs.Fract.{floor-negative}
 use Rattle.curve.proofs.Positions.{level-finite}
 use Rattle.math.specs.Formulas.{clampOf}
 use Rattle.floor.specs.Formula.{floorOf, fractOf}

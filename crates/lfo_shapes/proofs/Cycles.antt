@@ -18,9 +18,9 @@ use Rattle.exact.specs.Value.{value, Equal}
 use Rattle.exact.specs.Binary32.{_⊖_, _⊗_, _⊘_, half₃₂}
 use Rattle.exact.proofs.Parts.{part⁺, part⁻, num⁺, num⁻, neg⁺, neg⁻, times⁺, times⁻, add-parts, abs-parts, OneSided, one-sided, up as nonnegative, down as nonpositive}
 use Rattle.exact.proofs.Defined.{value-defined}
-use Rattle.exact.proofs.Order.{equal-sym, equal-trans, equal-at-most, ≤ℚ-trans, parts-≤ℚ, parts-equal}
-use Rattle.exact.proofs.Quanta.{equal⁺, equal⁻, quanta-of-equal, equal-of-quanta}
-use Rattle.exact.proofs.Sterbenz.{above, sub-exact}
+use Rattle.exact.proofs.Order.{equal-sym, equal-trans, equal-at-most, ≤ℚ-trans, parts-≤ℚ, parts-equal, equal⁺, equal⁻}
+use Rattle.rounding.proofs.Quanta.{quanta-of-equal, equal-of-quanta}
+use Rattle.rounding.proofs.Sterbenz.{above, sub-exact}
 use Rattle.math.specs.Formulas.{clampOf}
 use Rattle.floor.specs.Formula.{floorOf}
 use Rattle.floor.proofs.FloorExact.{floor-fits}

@@ -21,13 +21,13 @@ use Rattle.exact.specs.Value.{value, Equal}
 use Rattle.exact.specs.Binary32.{_⊖_, half₃₂, one₃₂}
 use Rattle.exact.proofs.Parts.{part⁺, part⁻, num⁺, num⁻, neg⁺, neg⁻}
 use Rattle.exact.proofs.Defined.{value-defined}
-use Rattle.exact.proofs.Order.{≤ℚ-parts, parts-≤ℚ, ≤ℚ-trans, ≤ℚ-total, equal-sym, equal-at-most, le-value, between-finite}
+use Rattle.exact.proofs.Order.{≤ℚ-parts, parts-≤ℚ, ≤ℚ-trans, ≤ℚ-total, equal-sym, equal-at-most, le-value, between-finite, equal⁻}
 use Rattle.exact.proofs.Close.{Close}
-use Rattle.exact.proofs.Rounding.{round-value}
-use Rattle.exact.proofs.Operations.{Quanta}
-use Rattle.exact.proofs.Quanta.{in-format, nonnegative-quanta, quanta-value, equal⁻}
-use Rattle.exact.proofs.Sterbenz.{nonnegative-exact, finer-units, difference-exact}
-use Rattle.exact.proofs.Fract.{floor-negative}
+use Rattle.rounding.proofs.Rounding.{round-value}
+use Rattle.rounding.proofs.Operations.{Quanta}
+use Rattle.rounding.proofs.Quanta.{in-format, nonnegative-quanta, quanta-value}
+use Rattle.rounding.proofs.Sterbenz.{nonnegative-exact, finer-units, difference-exact}
+use Rattle.rounding.proofs.Fract.{floor-negative}
 use Rattle.floor.proofs.Phase.{Phase, from-zero, walked}
 use Rattle.lfo_shapes.specs.Formula.{samples, sampledOf}
 use Rattle.lfo_shapes.specs.Exact.{remainder}

@@ -17,9 +17,9 @@ use Rattle.exact.specs.Value.{value, Equal}
 use Rattle.exact.specs.Binary32.{_⊗_, _⊘_}
 use Rattle.exact.proofs.Parts.{neg⁺, neg⁻, signed⁺, signed⁻, times⁺, times⁻}
 use Rattle.exact.proofs.Defined.{value-defined}
-use Rattle.exact.proofs.Order.{≤ℚ-parts, parts-equal, equal-trans}
-use Rattle.exact.proofs.Operations.{Signed}
-use Rattle.exact.proofs.Quanta.{InFormat, in-format, equal⁺, equal⁻}
+use Rattle.exact.proofs.Order.{≤ℚ-parts, parts-equal, equal-trans, equal⁺, equal⁻}
+use Rattle.rounding.proofs.Operations.{Signed}
+use Rattle.rounding.proofs.Quanta.{InFormat, in-format}
 use Rattle.lfo_shapes.specs.Formula.{eight₃₂}
 
 -- ---- a float is significand * 2 ^ shift quanta in size

@@ -15,9 +15,9 @@ use Rattle.exact.specs.Binary32.{_⊗_, half₃₂}
 use Rattle.exact.proofs.Parts.{num⁺, num⁻}
 use Rattle.exact.proofs.Order.{≤ℚ-trans, parts-≤ℚ, sum-raise-left}
 use Rattle.exact.proofs.Inequality.{minus-at-most}
-use Rattle.exact.proofs.Analyser.{Expr, var, constant, plus, times, Approximates, Lower, Upper, plain, evalFloat, evalExact, analyse}
-use Rattle.exact.proofs.Soundness.{plainly}
-use Rattle.exact.proofs.Inputs.{one, one-input, covers, concludes, concluded, relax, result}
+use Rattle.rounding.proofs.Analyser.{Expr, var, constant, plus, times, Approximates, Lower, Upper, plain, evalFloat, evalExact, analyse}
+use Rattle.rounding.proofs.Soundness.{plainly}
+use Rattle.rounding.proofs.Inputs.{one, one-input, covers, concludes, concluded, relax, result}
 use Rattle.curve.specs.Curve.{positionOf, drawnOf, Drawn}
 use Rattle.curve.proofs.Clamped.{drawn-near}
 use Rattle.sine.specs.Formula.{sinTurnsOf}

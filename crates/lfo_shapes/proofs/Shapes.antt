@@ -14,10 +14,9 @@ use Rattle.exact.specs.Value.{value, Equal}
 use Rattle.exact.specs.Binary32.{_⊖_, _⊗_, zero₃₂, half₃₂, one₃₂}
 use Rattle.exact.proofs.Parts.{num⁺, num⁻, times⁺, times⁻}
 use Rattle.exact.proofs.Defined.{value-defined, at-floor-is}
-use Rattle.exact.proofs.Order.{≤ℚ-trans, equal-refl, parts-equal, equal-sym, equal-trans, equal-at-most}
+use Rattle.exact.proofs.Order.{≤ℚ-trans, equal-refl, parts-equal, equal-sym, equal-trans, equal-at-most, equal⁺, equal⁻}
 use Rattle.exact.proofs.Inequality.{nlt-le, scale-le}
-use Rattle.exact.proofs.Sterbenz.{sterbenz-of}
-use Rattle.exact.proofs.Quanta.{equal⁺, equal⁻}
+use Rattle.rounding.proofs.Sterbenz.{sterbenz-of}
 use Rattle.curve.proofs.Positions.{Level, level-finite}
 use Rattle.floor.proofs.Turned.{Turned, chosen}
 use Rattle.floor.proofs.Phase.{Phase, phase-finite}

@@ -14,7 +14,7 @@ use Rattle.exact.specs.Fraction.{Fraction, Defined, ratio, whole, over, _+ℚ_,
 use Rattle.exact.specs.Value.{Within, RelativelyWithin}
 use Rattle.exact.proofs.Parts.{part⁺, part⁻, num⁺, num⁻, difference-parts}
 use Rattle.exact.proofs.Order.{≤ℚ-parts, ≤ℚ-total, parts-≡ℤ, within-sym}
-use Rattle.exact.proofs.Relative.{relative-across, over-positive}
+use Rattle.rounding.proofs.Relative.{relative-across, over-positive}
 use Rattle.log2.specs.Exact.{log2Seriesℚ, log2Mantissaℚ, log2At, log2ℚ}
 use Rattle.math.proofs.Bits.{pow-less}
 use Rattle.log2.proofs.Log2Error.{exact-log}

@@ -21,11 +21,11 @@ use Rattle.exact.proofs.Parts.{part⁺, part⁻, num⁺, num⁻, scale⁺, scal
 use Rattle.exact.proofs.Defined.{value-defined}
 use Rattle.exact.proofs.Order.{≤ℚ-parts, ≤ℚ-trans, lt-value}
 use Rattle.exact.proofs.Inequality.{nlt-le}
-use Rattle.exact.proofs.Quanta.{in-format, nonnegative-quanta, quanta-value, quanta-defined, equal-of-quanta}
-use Rattle.exact.proofs.Operations.{quanta-same}
-use Rattle.exact.proofs.Analyser.{Bound, Expr, var, constant, approx, plus, minus, times, quotient, Approximates, Lower, Upper, Facts, analyse, plain, evalFloat, evalExact}
-use Rattle.exact.proofs.Soundness.{plainly}
-use Rattle.exact.proofs.Inputs.{one, one-input, exact-input, covers, concludes, concluded, result}
+use Rattle.rounding.proofs.Quanta.{in-format, nonnegative-quanta, quanta-value, quanta-defined, equal-of-quanta}
+use Rattle.rounding.proofs.Operations.{quanta-same}
+use Rattle.rounding.proofs.Analyser.{Bound, Expr, var, constant, approx, plus, minus, times, quotient, Approximates, Lower, Upper, Facts, analyse, plain, evalFloat, evalExact}
+use Rattle.rounding.proofs.Soundness.{plainly}
+use Rattle.rounding.proofs.Inputs.{one, one-input, exact-input, covers, concludes, concluded, result}
 use Rattle.series.specs.Horner.{horner, hornerℚ}
 use Rattle.log2.specs.Formula.{log2Coefficients, log2Series, log2Mantissa, log2Bits, log2Of}
 use Rattle.series.specs.Terms.{terms}

@@ -10,7 +10,7 @@ use lib.Pow.{pow-pos, pow-add}
 use lib.Ieee.{Float, binary32, odd, ofBits, toBits, fits}
 use lib.Ieee.Bits.{ofBits-toBits}
 use Rattle.exact.specs.Binary32.{bits}
-use Rattle.exact.proofs.Operations.{Quanta}
+use Rattle.rounding.proofs.Operations.{Quanta}
 use Rattle.math.proofs.Bits.{bits-are, odd-quanta, Between, bits-between}
 
 -- the mantissa's float and the exponent

@@ -12,7 +12,7 @@ use lib.Ieee.Digits.{size-lt, size-le, size-reaches}
 use lib.Ieee.Exact.{odd-sign}
 use lib.Ieee.Fits.{down-pos, kept-lt}
 use lib.Ieee.Bits.{is-false, cond-no, ofBits-toBits}
-use Rattle.exact.proofs.Operations.{Quanta, of-value}
+use Rattle.rounding.proofs.Operations.{Quanta, of-value}
 
 -- ---- a pattern with a field from 1 to 254 and no sign
 fields : (F t : ℕ) → 1 ≤ F → F < 255 → ofFields binary32 false F t ≡ odd 24 false (2 ^ 23 + t) (F - 1) 149

@@ -5,9 +5,9 @@ use lib.Ieee.Fits.{add-fits}
 use Rattle.exact.specs.Fraction.{ratio}
 use Rattle.exact.specs.Value.{value, Within}
 use Rattle.exact.specs.Binary32.{half₃₂}
-use Rattle.exact.proofs.Analyser.{Expr, var, constant, plus, minus, times, plain, evalFloat, evalExact, analyse, certified}
-use Rattle.exact.proofs.Soundness.{plainly}
-use Rattle.exact.proofs.Inputs.{range, two, two-inputs, bounded}
+use Rattle.rounding.proofs.Analyser.{Expr, var, constant, plus, minus, times, plain, evalFloat, evalExact, analyse, certified}
+use Rattle.rounding.proofs.Soundness.{plainly}
+use Rattle.rounding.proofs.Inputs.{range, two, two-inputs, bounded}
 use Rattle.curve.specs.Curve.{positionOf, drawnOf, Drawn}
 use Rattle.curve.proofs.Positions.{Level, position-level}
 use Rattle.curve.proofs.Clamped.{drawn-near}

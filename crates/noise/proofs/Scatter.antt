@@ -17,15 +17,15 @@ use Rattle.exact.specs.Value.{value}
 use Rattle.exact.specs.Binary32.{_⊕_, _⊗_, bits, zero₃₂}
 use Rattle.exact.proofs.Parts.{num⁺, num⁻, neg⁺, neg⁻}
 use Rattle.exact.proofs.Order.{≤ℚ-parts, parts-≤ℚ, le-value}
-use Rattle.exact.proofs.Bounds.{lower-at, upper-at}
-use Rattle.exact.proofs.Analyser.{Bound, Expr, var, constant, plus, times, Approximates, plain, evalFloat, evalExact, analyse}
-use Rattle.exact.proofs.Soundness.{plainly}
-use Rattle.exact.proofs.Inputs.{range, one, one-input, exact-input, covers, concludes, concluded}
+use Rattle.rounding.proofs.Bounds.{lower-at, upper-at}
+use Rattle.rounding.proofs.Analyser.{Bound, Expr, var, constant, plus, times, Approximates, plain, evalFloat, evalExact, analyse}
+use Rattle.rounding.proofs.Soundness.{plainly}
+use Rattle.rounding.proofs.Inputs.{range, one, one-input, exact-input, covers, concludes, concluded}
 use Rattle.floor.specs.Formula.{fractOf}
 use Rattle.sine.specs.Formula.{sinTurnsOf}
 use Rattle.floor.specs.Exact.{fractℚ}
 use Rattle.floor.proofs.Phase.{Phase, from-zero, fract-turned}
-use Rattle.exact.proofs.OwnRange.{approximates-finite, own-range}
+use Rattle.rounding.proofs.OwnRange.{approximates-finite, own-range}
 use Rattle.sine.proofs.SineEnclosure.{sineRange, sin-turns-range}
 use Rattle.curve.proofs.Positions.{Level, level-finite}
 use Rattle.noise.specs.Formula.{noiseAtOf}

@@ -11,10 +11,10 @@ use lib.Ieee.Bits.{ofBits-fits}
 use Rattle.exact.specs.Fraction.{Fraction, ratio}
 use Rattle.exact.specs.Value.{value, Within}
 use Rattle.exact.specs.Binary32.{bits, zero₃₂, half₃₂, one₃₂}
-use Rattle.exact.proofs.Analyser.{Bound, Expr, var, constant, plus, minus, times, over, Approximates, plain, evalFloat, evalExact, analyse, certified, constantOf}
-use Rattle.exact.proofs.Soundness.{plainly}
-use Rattle.exact.proofs.StepLeaves.{constant-sound}
-use Rattle.exact.proofs.Inputs.{range, one, one-input, three, three-inputs, covers, relax, concludes, concluded, bounded}
+use Rattle.rounding.proofs.Analyser.{Bound, Expr, var, constant, plus, minus, times, over, Approximates, plain, evalFloat, evalExact, analyse, certified, constantOf}
+use Rattle.rounding.proofs.Soundness.{plainly}
+use Rattle.rounding.proofs.StepLeaves.{constant-sound}
+use Rattle.rounding.proofs.Inputs.{range, one, one-input, three, three-inputs, covers, relax, concludes, concluded, bounded}
 use Rattle.curve.specs.Curve.{positionOf, drawnOf, Drawn}
 use Rattle.curve.proofs.Positions.{Level, position-level}
 use Rattle.curve.proofs.Clamped.{drawn-near}

@@ -7,7 +7,7 @@ use mathlib.Core.Bool.{not}
 use lib.Ieee.{Float, binary32, round}
 use Rattle.exact.specs.Fraction.{Fraction}
 use Rattle.exact.specs.Binary32.{zero₃₂}
-use Rattle.exact.proofs.Analyser.{Expr, constant, approx, plus, times, truncated}
+use Rattle.rounding.proofs.Analyser.{Expr, constant, approx, plus, times, truncated}
 
 -- the float nearest to a fraction
 unfoldable pub nearestTo : Fraction → Float

@@ -1,19 +1,16 @@
--- A BYTE AS A LEVEL, and a curve byte as a bend: `byte-level` and `bend-range` for all 256, each by one computed test. Assumes nothing.
+-- A BYTE AS A LEVEL: `byte-level` for all 256, by one computed test. Assumes nothing.
 use mathlib.Core.Bool.{Bool, false, not, _&&_}
 use Prim.Native.Nat.{ℕ, _*_, _≤_, _<_}
 use native.Mathlib.Omega.{arith}
 use lib.Dec.{T, leb, leb→le}
 use lib.Ieee.{Float, nan, inf, fin, binary32, up, down, ofBits, ofInt, fits, le, div}
-use lib.Ieee.Fits.{and-l, and-r, mul-fits, div-fits}
+use lib.Ieee.Fits.{and-l, and-r, div-fits}
 use lib.Ieee.Positive.{num, den}
 use Rattle.exact.specs.Binary32.{bits, zero₃₂, one₃₂}
-use Rattle.exact.proofs.Monotone.{unsigned, cross-le}
-use Rattle.exp2.specs.Formula.{exp2Of, exp2Within}
+use Rattle.rounding.proofs.Monotone.{unsigned, cross-le}
 use Rattle.lists.proofs.Every.{every, each}
-use Rattle.exp2.proofs.Bend.{bend-from-quarter, bend-to-four}
 use Rattle.curve.proofs.Positions.{Level}
-use Rattle.settings.specs.Settings.{byteOf, bendOf}
-use Rattle.settings.proofs.Ranges.{BendRange}
+use Rattle.settings.specs.Settings.{byteOf}
 
 -- ---- a test of a float: it has no sign and is at most 1
 unfoldable pub unit : Float → Bool
@@ -64,7 +61,3 @@ byte-holds b = div-fits binary32 (ofInt binary32 _) (bits 0x437f_0000)
 
 pub byte-level : (b : ℕ) → b < 256 → Level (byteOf b)
 byte-level b h = unit-level (byteOf b) (byte-holds b) (byte-unit b h)
-
-pub bend-range : (c : ℕ) → c < 256 → BendRange (bendOf c)
-unfolding bendOf exp2Of exp2Within
-bend-range c h = record { holds = mul-fits binary32 _ _; from = bend-from-quarter c h; to = bend-to-four c h }

@@ -1,4 +1,4 @@
--- WHAT BYTES GIVE SATISFIES Ranges.antt: one theorem for each of the settings, for all bytes. Assumes nothing.
+-- WHAT BYTES GIVE SATISFIES Ranges.antt: one theorem for each of the settings that are built here, for all bytes. Assumes nothing.
 use mathlib.Core.Path.{refl}
 use mathlib.Core.Bool.{Bool, true, false, cond, _&&_}
 use Prim.Native.Nat.{ℕ, _<_}
@@ -8,11 +8,9 @@ use lib.Ieee.Fits.{and-l, and-r, add-fits, mul-fits, div-fits}
 use Rattle.exact.specs.Binary32.{_⊕_, _⊘_, bits, zero₃₂, half₃₂, one₃₂}
 use Rattle.lists.proofs.Every.{every, each}
 use Rattle.curve.proofs.Positions.{Level}
-use Rattle.settings.specs.Settings.{byteOf, firstOf, secondOf, thirdOf, envelopeOf, lfoOf, fadeOf, poleSlopeOf, lowPassOf, highPassOf, isManual, depthOf, widthOf, sweepOf, oscillatorOneOf, oscillatorTwoOf, noiseOf}
-use Rattle.settings.proofs.Ranges.{EnvelopeRange, LfoRange, FadeRange, Slope, six, twelve, twenty-four, FilterRange, OscillatorRange, NoiseRange}
-use Rattle.settings.proofs.Bytes.{unit, unit-level, byte-level, bend-range}
-use Rattle.settings.proofs.Sustain.{sustain-end-level}
-use Rattle.settings.proofs.Ends.{ends}
+use Rattle.settings.specs.Settings.{byteOf, lfoOf, fadeOf, poleSlopeOf, lowPassOf, highPassOf, isManual, depthOf, widthOf, sweepOf, oscillatorOneOf, oscillatorTwoOf, noiseOf}
+use Rattle.settings.proofs.Ranges.{LfoRange, FadeRange, Slope, six, twelve, twenty-four, FilterRange, OscillatorRange, NoiseRange}
+use Rattle.settings.proofs.Bytes.{unit, unit-level, byte-level}
 
 zero-level : Level zero₃₂
 unfolding fits ofBits unit
@@ -25,26 +23,6 @@ half-level = unit-level half₃₂ tt tt
 one-level : Level one₃₂
 unfolding fits ofBits unit
 one-level = unit-level one₃₂ tt tt
-
--- ---- envelope
-pub envelope-range : (a d s r ac dc sc rc : ℕ) → a < 256 → d < 256 → s < 256 → r < 256 → ac < 256 → dc < 256 → sc < 256 → rc < 256 → EnvelopeRange (envelopeOf a d s r ac dc sc rc)
-unfolding envelopeOf firstOf secondOf thirdOf
-envelope-range a d s r ac dc sc rc ha hd hs hr hac hdc hsc hrc =
-    let e = ends a d r ha hd hr in
-    record {
-      first-holds = div-fits binary32 _ _;
-      second-holds = add-fits binary32 _ _;
-      third-holds = add-fits binary32 _ _;
-      from = e .from;
-      first-second = e .first-second;
-      second-third = e .second-third;
-      to = e .to;
-      sustain = byte-level s hs;
-      sustain-end = sustain-end-level s sc hs hsc;
-      attack = bend-range ac hac;
-      decay = bend-range dc hdc;
-      release = bend-range rc hrc;
-    }
 
 -- ---- LFO and fade
 pub lfo-range : (shape slew sync : ℕ) (unipolar : Bool) → slew < 256 → LfoRange (lfoOf shape slew sync unipolar)

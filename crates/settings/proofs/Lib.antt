@@ -1,7 +1,5 @@
--- What the settings that bytes give satisfy.
+-- What the settings satisfy, and that those built here do.
 pub mod Ranges
 pub mod Bytes
-pub mod Sustain
-pub mod Ends
 pub mod Given
 pub mod Examples

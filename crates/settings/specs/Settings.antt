@@ -4,10 +4,8 @@ use mathlib.Core.Bool.{Bool, true, false, not, cond, _||_}
 use Prim.Native.Nat.{ℕ}
 use lib.Dec.{eqb, ltb}
 use lib.IntN.{pos}
-use lib.Ieee.{Float, binary32, ofInt, lt}
-use Rattle.exact.specs.Binary32.{_⊕_, _⊖_, _⊗_, _⊘_, bits, zero₃₂, half₃₂, one₃₂}
-use Rattle.exp2.specs.Formula.{exp2Of}
-use Rattle.settings.specs.declared.Envelope.{Envelope}
+use lib.Ieee.{Float, binary32, ofInt}
+use Rattle.exact.specs.Binary32.{_⊕_, _⊗_, _⊘_, bits, zero₃₂, half₃₂, one₃₂}
 use Rattle.settings.specs.declared.LfoShape.{LfoShape}
 use Rattle.settings.specs.declared.LfoShape.the-variants.{Sine, Triangle, Square, RampUp, RampDown, SampleAndHold, SampleAndGlide}
 use Rattle.settings.specs.declared.Lfo.{Lfo}
@@ -20,49 +18,6 @@ use Rattle.settings.specs.declared.Noise.{Noise}
 -- b / 255
 unfoldable pub byteOf : ℕ → Float
 byteOf b = ofInt binary32 (pos b) ⊘ bits 0x437f_0000
-
--- ---- envelope
--- The time that a held level is drawn for, 0.5, and the whole width: attack, decay, held, release.
-unfoldable pub totalOf : ℕ → ℕ → ℕ → Float
-totalOf a d r = byteOf a ⊕ byteOf d ⊕ half₃₂ ⊕ byteOf r
-
--- The ends of the attack, of the decay and of the sustain.
-unfoldable pub firstOf : ℕ → ℕ → ℕ → Float
-firstOf a d r = byteOf a ⊘ totalOf a d r
-
-unfoldable pub secondOf : ℕ → ℕ → ℕ → Float
-secondOf a d r = firstOf a d r ⊕ byteOf d ⊘ totalOf a d r
-
-unfoldable pub thirdOf : ℕ → ℕ → ℕ → Float
-thirdOf a d r = secondOf a d r ⊕ half₃₂ ⊘ totalOf a d r
-
--- The sustain's slope, (c / 255 - 0.5) * 2, from -1 to 1; and the level that it reaches from s: toward 0 below 0, toward 1 above.
-unfoldable pub slopeOf : ℕ → Float
-slopeOf c = (byteOf c ⊖ half₃₂) ⊗ bits 0x4000_0000
-
-unfoldable pub sloped : Float → Float → Float
-sloped s k = cond (lt k zero₃₂) (s ⊗ (one₃₂ ⊕ k)) (s ⊕ (one₃₂ ⊖ s) ⊗ k)
-
-unfoldable pub sustainEndOf : ℕ → ℕ → Float
-sustainEndOf s c = sloped (byteOf s) (slopeOf c)
-
--- 2 ^ ((c - 128) / 64)
-unfoldable pub bendOf : ℕ → Float
-bendOf c = exp2Of ((ofInt binary32 (pos c) ⊖ bits 0x4300_0000) ⊘ bits 0x4280_0000)
-
--- Attack, decay, sustain, release, then their four curves.
-unfoldable pub envelopeOf : ℕ → ℕ → ℕ → ℕ → ℕ → ℕ → ℕ → ℕ → Envelope
-envelopeOf a d s r ac dc sc rc =
-    record {
-      first = firstOf a d r;
-      second = secondOf a d r;
-      third = thirdOf a d r;
-      sustain = byteOf s;
-      «sustain_end» = sustainEndOf s sc;
-      «attack_bend» = bendOf ac;
-      «decay_bend» = bendOf dc;
-      «release_bend» = bendOf rc;
-    }
 
 -- ---- LFO
 -- 0 to 6 name a shape; 7 to 255 are Sine.

@@ -1,7 +1,6 @@
-// The settings that a program's bytes give each generator: plain data, built by value.
+// The settings of each generator: plain data, built by value from a program's bytes. An envelope's are built in envelope_settings.
 ghost use mathlib.Core.Path.{_≡_};
-ghost use Rattle.settings.specs.Settings.{byteOf, bendOf, sustainEndOf, envelopeOf, lfoShapeOf, turnsOf, lfoOf, fadeOf, lowPassOf, highPassOf, poleSlopeOf, isManual, oscillatorOneOf, oscillatorTwoOf, noiseOf};
-use exp2::exp2;
+ghost use Rattle.settings.specs.Settings.{byteOf, lfoShapeOf, turnsOf, lfoOf, fadeOf, lowPassOf, highPassOf, poleSlopeOf, isManual, oscillatorOneOf, oscillatorTwoOf, noiseOf};
 use math::from_u16;
 
 // Where an envelope's attack, decay and sustain end, its two levels, and the bends of its timed segments.
@@ -65,7 +64,7 @@ pub struct Noise {
 }
 
 // The time that a held level is drawn for.
-const HOLD_WIDTH: f32 = 0.5;
+pub const HOLD_WIDTH: f32 = 0.5;
 
 // The octaves to either side of a filter's corner.
 const FILTER_SPAN: f32 = 3.0;
@@ -77,54 +76,6 @@ pub fn byte(raw: u8) -> f32
     ensures { λ r. ⌜ r ≡ byteOf raw ⌝ }
 {
     from_u16(raw as u16) / 255.0
-}
-
-// ---- envelope
-pub fn bend(curve: u8) -> f32
-    ensures { λ r. ⌜ r ≡ bendOf curve ⌝ }
-{
-    exp2((curve as f32 - 128.0) / 64.0)
-}
-
-// The level that the sustain ends at: toward 0 below the curve's middle, toward 1 above it.
-pub fn sustain_end(sustain: u8, curve: u8) -> f32
-    ensures { λ r. ⌜ r ≡ sustainEndOf sustain curve ⌝ }
-{
-    let from = byte(sustain);
-    let slope = (byte(curve) - 0.5) * 2.0;
-    if slope < 0.0 {
-        return from * (1.0 + slope);
-    }
-    from + (1.0 - from) * slope
-}
-
-pub fn envelope_from(
-    attack: u8,
-    decay: u8,
-    sustain: u8,
-    release: u8,
-    attack_curve: u8,
-    decay_curve: u8,
-    sustain_curve: u8,
-    release_curve: u8,
-) -> Envelope
-    ensures { λ r. ⌜ r ≡ envelopeOf attack decay sustain release «attack_curve» «decay_curve» «sustain_curve» «release_curve» ⌝ }
-{
-    let rise = byte(attack);
-    let fall = byte(decay);
-    let total = rise + fall + HOLD_WIDTH + byte(release);
-    let first = rise / total;
-    let second = first + fall / total;
-    Envelope {
-        first,
-        second,
-        third: second + HOLD_WIDTH / total,
-        sustain: byte(sustain),
-        sustain_end: sustain_end(sustain, sustain_curve),
-        attack_bend: bend(attack_curve),
-        decay_bend: bend(decay_curve),
-        release_bend: bend(release_curve),
-    }
 }
 
 // ---- LFO

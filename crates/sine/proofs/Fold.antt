@@ -13,7 +13,7 @@ use Rattle.exact.specs.Value.{value, Equal}
 use Rattle.exact.specs.Binary32.{_⊖_, quarter₃₂, half₃₂, one₃₂}
 use Rattle.exact.proofs.Parts.{num⁺, num⁻, sum-parts}
 use Rattle.exact.proofs.Order.{≤ℚ-parts, parts-≤ℚ, ≤ℚ-trans, equal-refl}
-use Rattle.exact.proofs.Sterbenz.{half-minus, minus-half}
+use Rattle.rounding.proofs.Sterbenz.{half-minus, minus-half}
 use Rattle.exact.proofs.Inequality.{minus-at-most, at-least-minus, lt-le, nlt-le}
 use Rattle.sine.specs.Formula.{halfOf, quarterOf, signOf}
 use Rattle.sine.specs.Exact.{halfℚ, quarterℚ}

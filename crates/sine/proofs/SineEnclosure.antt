@@ -16,11 +16,11 @@ use Rattle.exact.specs.Fraction.{Fraction, ratio, whole, negℚ, ltℚ, _*ℚ_,
 use Rattle.exact.proofs.Parts.{num⁺, num⁻, neg⁺, neg⁻, mul⁺, mul⁻, times⁺, times⁻}
 use Rattle.exact.proofs.Defined.{choice-is}
 use Rattle.exact.proofs.Order.{≤ℚ-parts, parts-≤ℚ, ≤ℚ-trans, ≤ℚ-total}
-use Rattle.exact.proofs.Bounds.{lower-at, upper-at}
-use Rattle.exact.proofs.Analyser.{Bound, Expr, var, approx, times, Approximates, Lower, Upper, plain, evalExact, analyse}
-use Rattle.exact.proofs.Soundness.{plainly}
-use Rattle.exact.proofs.Inputs.{one, one-input, exact-input, covers, relax, concludes, concluded}
-use Rattle.exact.proofs.OwnRange.{widened, own-range}
+use Rattle.rounding.proofs.Bounds.{lower-at, upper-at}
+use Rattle.rounding.proofs.Analyser.{Bound, Expr, var, approx, times, Approximates, Lower, Upper, plain, evalExact, analyse}
+use Rattle.rounding.proofs.Soundness.{plainly}
+use Rattle.rounding.proofs.Inputs.{one, one-input, exact-input, covers, relax, concludes, concluded}
+use Rattle.rounding.proofs.OwnRange.{widened, own-range}
 use Rattle.exact.specs.Value.{value}
 use Rattle.exact.specs.Binary32.{bits}
 use Rattle.series.proofs.SeriesExpr.{exactly, nearestTo}

@@ -11,10 +11,10 @@ use Rattle.exact.specs.Fraction.{Fraction, ratio, whole, ltℚ, _+ℚ_, _*ℚ_}
 use Rattle.exact.specs.Value.{value, Within}
 use Rattle.exact.specs.Binary32.{_⊕_, _⊗_, bits, half₃₂, one₃₂}
 use Rattle.exact.proofs.Defined.{choice-is}
-use Rattle.exact.proofs.Bounds.{lower-at, upper-at}
-use Rattle.exact.proofs.Analyser.{Bound, Expr, var, constant, approx, plus, times, Approximates, plain, evalFloat, evalExact, analyse, certified}
-use Rattle.exact.proofs.Soundness.{plainly}
-use Rattle.exact.proofs.Inputs.{one, one-input, exact-input, covers, concludes, concluded, bounded}
+use Rattle.rounding.proofs.Bounds.{lower-at, upper-at}
+use Rattle.rounding.proofs.Analyser.{Bound, Expr, var, constant, approx, plus, times, Approximates, plain, evalFloat, evalExact, analyse, certified}
+use Rattle.rounding.proofs.Soundness.{plainly}
+use Rattle.rounding.proofs.Inputs.{one, one-input, exact-input, covers, concludes, concluded, bounded}
 use Rattle.series.specs.Horner.{horner, hornerℚ}
 use Rattle.floor.specs.Formula.{fractOf}
 use Rattle.sine.specs.Formula.{sineCoefficients, sineOfAngle, sineOfQuarter, sineOfCycle, sinTurnsOf, halfOf, quarterOf}

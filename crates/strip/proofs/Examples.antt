@@ -13,7 +13,8 @@ use Rattle.lists.proofs.Rows.{allPass}
 use Rattle.curve.specs.Curve.{positionOf, drawnOf}
 use Rattle.settings.specs.Settings.{byteOf, lfoShapeOf, turnsOf, lfoOf}
 use Rattle.lfo_shapes.specs.Formula.{wrapOf, triangleOf, shapeAtOf}
-use Rattle.lfo.specs.Formula.{stepOf, placeOf, fullFrom, fullSteps, walkedOf, lfoHeightOf}
+use Rattle.walk.specs.Formula.{stepOf, placeOf, fullFrom, fullSteps, walkedOf}
+use Rattle.lfo.specs.Formula.{lfoHeightOf}
 use Rattle.generator.specs.declared.Shape.{Shape}
 use Rattle.generator.specs.declared.Shape.the-variants.{Lfo as AnLfo}
 use Rattle.generator.specs.Heights.{heightOf}

@@ -14,7 +14,8 @@ use Rattle.fade.specs.Formula.{fadeHeightOf}
 use Rattle.oscillator.specs.Formula.{oscillatorHeightOf}
 use Rattle.noise.specs.Formula.{noiseHeightOf}
 use Rattle.filter.specs.Formula.{filterHeightOf}
-use Rattle.lfo.specs.Formula.{placeOf, fullFrom, fullSteps, walkedOf, lfoHeightOf}
+use Rattle.walk.specs.Formula.{placeOf, fullFrom, fullSteps, walkedOf}
+use Rattle.lfo.specs.Formula.{lfoHeightOf}
 use Rattle.generator.specs.declared.Shape.{Shape}
 use Rattle.generator.specs.declared.Shape.the-variants.{Envelope as AnEnvelope, Fade as AFade, Lfo as AnLfo, Filter as AFilter, Oscillator as AnOscillator, Noise as ANoise}
 use Rattle.generator.specs.Heights.{heightOf}

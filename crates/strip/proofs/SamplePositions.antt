@@ -11,11 +11,11 @@ use lib.Ieee.Order.{round-mono}
 use lib.Ieee.Positive.{num, den, positive, positive-of-value}
 use lib.Ieee.Scale.{finite}
 use Rattle.exact.specs.Binary32.{zero₃₂, one₃₂}
-use Rattle.exact.proofs.Monotone.{unsigned, of-value, le-cross, cross-le, unsigned-finite, div-at-most, div-unsigned}
+use Rattle.rounding.proofs.Monotone.{unsigned, of-value, le-cross, cross-le, unsigned-finite, div-at-most, div-unsigned}
 use Rattle.math.specs.Formulas.{clampOf}
 use Rattle.math.proofs.Whole.{of-int}
 use Rattle.curve.specs.Curve.{positionOf}
-use Rattle.lfo.proofs.Steps.{le-nlt}
+use Rattle.walk.proofs.Steps.{le-nlt}
 use Rattle.strip.specs.Strip.{partOf}
 
 -- ---- the number of a sample, as a float

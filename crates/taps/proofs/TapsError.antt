@@ -15,14 +15,14 @@ use Rattle.exact.specs.Value.{value, Equal, Within, RelativelyWithin}
 use Rattle.exact.specs.Binary32.{_⊖_, one₃₂}
 use Rattle.exact.proofs.Defined.{value-defined}
 use Rattle.exact.proofs.Order.{parts-≤ℚ, ≤ℚ-trans, ≤-sum-parts, sum-raise-left, equal-sym, equal-refl, equal-within, within-equal-left, within-loosen, lt-at-most}
-use Rattle.exact.proofs.Relative.{relative-absolute}
-use Rattle.exact.proofs.UnitRoundoff.{sub-relative}
+use Rattle.rounding.proofs.Relative.{relative-absolute}
+use Rattle.rounding.proofs.UnitRoundoff.{sub-relative}
 use Rattle.exact.proofs.Lipschitz.{abs-within, abs-value, max-within}
-use Rattle.exact.proofs.Bounds.{lower-at, upper-at}
-use Rattle.exact.proofs.FloatBounds.{within-near}
-use Rattle.exact.proofs.Analyser.{Bound, Expr, var, constant, minus, times, over, Approximates, plain, evalFloat, evalExact, analyse, certified}
-use Rattle.exact.proofs.Soundness.{plainly}
-use Rattle.exact.proofs.Inputs.{range, two, two-inputs, bounded}
+use Rattle.rounding.proofs.Bounds.{lower-at, upper-at}
+use Rattle.rounding.proofs.FloatBounds.{within-near}
+use Rattle.rounding.proofs.Analyser.{Bound, Expr, var, constant, minus, times, over, Approximates, plain, evalFloat, evalExact, analyse, certified}
+use Rattle.rounding.proofs.Soundness.{plainly}
+use Rattle.rounding.proofs.Inputs.{range, two, two-inputs, bounded}
 use Rattle.math.specs.Formulas.{absOf, maxOf}
 use Rattle.curve.specs.Curve.{positionOf, drawnOf, Drawn}
 use Rattle.curve.proofs.Positions.{Level, position-level}

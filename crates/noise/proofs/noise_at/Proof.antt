@@ -6,4 +6,4 @@ use Rattle.noise.proofs.noise_at.Tie as tie
 
 pub noise-at-spec : {M : Type 1} → statement M
 unfolding noiseAtOf
-noise-at-spec = tie.close (tie.spec (λ c κs. search needs) (λ c κs. search needs) (λ c. cc))
+noise-at-spec = tie.close (tie.spec (λ c κs. search needs) (λ c κs. search needs) (λ c. simp (c .fract .ensures, c .before .sin-turns .ensures)))

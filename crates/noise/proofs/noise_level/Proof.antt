@@ -6,4 +6,4 @@ use Rattle.noise.proofs.noise_level.Tie as tie
 
 pub noise-level-spec : {M : Type 1} → statement M
 unfolding noiseLevelOf
-noise-level-spec = tie.close (tie.spec (λ c κs. search needs) (λ c. cc))
+noise-level-spec = tie.close (tie.spec (λ c κs. search needs) (λ c. simp (c .before .noise-at .ensures)))

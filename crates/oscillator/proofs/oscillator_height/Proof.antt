@@ -7,4 +7,5 @@ use Rattle.oscillator.proofs.oscillator_height.Tie as tie
 pub oscillator-height-spec : {M : Type 1} → statement M
 unfolding oscillatorHeightOf
 oscillator-height-spec =
-    tie.close (tie.spec (λ c κs. search needs) (λ c κs. search needs) (λ c κs. search needs) (λ c. cc))
+    tie.close (tie.spec (λ c κs. search needs) (λ c κs. search needs) (λ c κs. search needs)
+    (λ c. simp (c .drawn .ensures, c .before .oscillator-level .ensures, c .before .before .position .ensures)))

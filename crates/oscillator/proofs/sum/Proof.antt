@@ -6,4 +6,5 @@ use Rattle.oscillator.proofs.sum.Tie as tie
 
 pub sum-spec : {M : Type 1} → statement M
 unfolding sumOf
-sum-spec = tie.close (tie.spec (λ c κs. search needs) (λ c κs. search needs) (λ c κs. search needs) (λ c κs. search needs) (λ c. cc))
+sum-spec = tie.close (tie.spec (λ c κs. search needs) (λ c κs. search needs) (λ c κs. search needs) (λ c κs. search needs)
+    (λ c. simp (c .added2 .ensures, c .before .pulse .ensures, c .before .before .added .ensures, c .before .before .before .saw .ensures)))

@@ -19,7 +19,7 @@ returns c =
     (λ i. field-held (given .args .taps .at) (at .0) i (at .1 .1))
     (λ i. field-held (given .args .taps .tall) (tall .0) i (tall .1 .1))
     (subst T (sym (given .good .1 .0 .1)) tt)
-    (cc)
+    (simp (c .drawn-from-zero .ensures, c .before .taps-level .ensures, c .before .before .position .ensures))
 
 pub taps-height-spec : {M : Type 1} → statement M
 taps-height-spec = tie.close (tie.spec (λ c κs. search needs) (λ c κs. search needs) (λ c κs. level-from-zero _ _ _ (c .taps-level .ensures)) returns)

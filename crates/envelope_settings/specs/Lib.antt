@@ -1,0 +1,2 @@
+-- The settings of an envelope, from bytes.
+pub mod Formula

@@ -1,9 +1,0 @@
--- `moved` is `movedOf`. Assumes nothing.
-use Rattle.lfo.specs.Formula.{movedOf}
-use borrow.Author.Needs.{needs}
-use Rattle.lfo.proofs.moved.Statement.{statement}
-use Rattle.lfo.proofs.moved.Tie as tie
-
-pub moved-spec : {M : Type 1} → statement M
-unfolding movedOf
-moved-spec = tie.close (tie.spec (λ c κs. search needs) (λ c κs. search needs) (λ c. simp (c .clamp .ensures, c .before .shape-at .ensures)))

@@ -1,0 +1,11 @@
+-- The slew walk: the loop's count, the positions, the steps; a step's cost and the whole walk's, and the height's distance.
+pub mod Counts
+pub mod Places
+pub mod Steps
+pub mod HeldStep
+pub mod ProductSign
+pub mod Advances
+pub mod MostError
+pub mod StepError
+pub mod WalkError
+pub mod WalkDrawn

@@ -1,0 +1,122 @@
+-- THE STEPS OF A WALK are the first count from 1 up whose position is not below the phase, 96 to 672 of them, at every phase from 0 to 6. Assumes nothing.
+use mathlib.Core.Path.{_≡_, refl, sym, subst, _∙_}
+use mathlib.Core.Logic.{inl, inr}
+use mathlib.Core.Bool.{Bool, true, false, not, cond}
+use Prim.Native.Nat.{ℕ, zero, suc, _+_, _≤_, _<_}
+use native.Mathlib.Nat.{eq-or-lt-of-le, not-le-of-lt, le-of-suc-le-suc}
+use native.Mathlib.Omega.{arith}
+use lib.Dec.{T, lit<, lit≤, leb, leb→le, nleb→lt}
+use lib.Ieee.{Float, ofBits, lt, le}
+use lib.Ieee.Bits.{is-true}
+use lib.Ieee.Scale.{finite}
+use Rattle.exact.specs.Fraction.{ratio, _≤ℚ_}
+use Rattle.exact.specs.Value.{value}
+use Rattle.exact.specs.Binary32.{bits, zero₃₂}
+use Rattle.exact.proofs.Defined.{value-defined}
+use Rattle.exact.proofs.Order.{cross, ≤ℚ-parts, ≤ℚ-trans, le-value, nlt-at-most, compared}
+use Rattle.lfo_shapes.proofs.DrawnPhase.{Spanned}
+use Rattle.walk.specs.Formula.{placeOf, fullFrom, fullSteps}
+use Rattle.walk.specs.Steps.{Steps}
+use Rattle.walk.proofs.Places.{place-finite, place-end, place-below-zero}
+
+-- ---- the search from count k + 1 on finds the first that reaches the phase, where some count m does
+record Found (phase : Float) (k m r : ℕ) : Type 0 where
+  from : k ≤ r
+  before : r < m
+  reaches : le phase (placeOf (suc r)) ≡ true
+  passed : (j : ℕ) → k < j → j ≤ r → le phase (placeOf j) ≡ false
+
+found : (phase : Float) (n k m : ℕ) → k < m → m ≤ suc (n + k) → le phase (placeOf m) ≡ true → Found phase k m (fullFrom phase n k)
+unfolding fullFrom
+found phase zero k m h l t =
+    let e : m ≡ suc k = omega arith in
+    record { from = omega arith; before = h; reaches = subst (λ (j : ℕ). le phase (placeOf j) ≡ true) e t; passed = λ j a b. absurd (not-le-of-lt a b) }
+found phase (suc n) k m h l t = go (le phase (placeOf (suc k))) refl (λ (i : suc k < m). found phase n (suc k) m i (omega arith) t)
+  where
+    clash : false ≡ true → ⊥
+    clash i = subst (λ (b : Bool). T (not b)) i tt
+
+    go : (b : Bool) → le phase (placeOf (suc k)) ≡ b → (suc k < m → Found phase (suc k) m (fullFrom phase n (suc k))) → Found phase k m (cond b k (fullFrom phase n (suc k)))
+    go true e rest = record { from = omega arith; before = h; reaches = e; passed = λ j a b. absurd (not-le-of-lt a b) }
+    go false e rest =
+        let after : suc k < m = elim (eq-or-lt-of-le h) [ inl i ↦ absurd (clash (sym (subst (λ (j : ℕ). le phase (placeOf j) ≡ false) i e) ∙ t)) | inr i ↦ i ] in
+        let f = rest after in
+        let r : suc k ≤ fullFrom phase n (suc k) = f .from in
+        record {
+          from = omega arith;
+          before = f .before;
+          reaches = f .reaches;
+          passed = λ j a b. elim (eq-or-lt-of-le a) [ inl i ↦ subst (λ (j : ℕ). le phase (placeOf j) ≡ false) i e | inr i ↦ f .passed j i b ];
+        }
+
+-- ---- tests of numbers
+pub le-nlt : (x y : Float) → T (finite x) → T (finite y) → T (le x y) → T (not (lt y x))
+le-nlt x y X Y h = go (lt y x) (compared y x Y X .below .passed)
+  where
+    go : (b : Bool) → (T b → cross (value y) (value x) < cross (value x) (value y)) → T (not b)
+    go true k = absurd (not-le-of-lt (k tt) (≤ℚ-parts (value x) (value y) (le-value x y X Y .0 h)))
+    go false k = tt
+
+nle-lt : (x y : Float) → T (finite x) → T (finite y) → le x y ≡ false → T (lt y x)
+nle-lt x y X Y h = go (lt y x) (λ t. nlt-at-most y x Y X t .le)
+  where
+    go : (b : Bool) → (T (not b) → value x ≤ℚ value y) → T b
+    go true k = tt
+    go false k = absurd (subst T h (le-value x y X Y .1 (k tt)))
+
+-- ---- a position that reaches a phase from 0 to 6 is not below 0, and the last one reaches it
+unreached : (phase : Float) (k : ℕ) → Spanned phase → k < 96 → le phase (placeOf k) ≡ false
+unfolding value ofBits
+unreached phase k p l = go (le phase (placeOf k)) (le-value phase (placeOf k) (p .number) K .0)
+  where
+    K : T (finite (placeOf k))
+    K = place-finite k (omega arith)
+
+    both : (b : Bool) → T b → T (not b) → ⊥
+    both true t f = f
+    both false t f = t
+
+    go : (b : Bool) → (T b → value phase ≤ℚ value (placeOf k)) → b ≡ false
+    go false h = refl
+    go true h =
+        let z = ≤ℚ-trans (ratio 0 1) (value phase) (value (placeOf k)) (value-defined phase .1 (p .number)) (p .from) (h tt) in
+        absurd (both (lt (placeOf k) zero₃₂) (place-below-zero k l) (le-nlt zero₃₂ (placeOf k) tt K (le-value zero₃₂ (placeOf k) tt K .1 z)))
+
+end-reaches : (phase : Float) → Spanned phase → T (le phase (placeOf 672))
+unfolding value ofBits
+end-reaches phase p = subst (λ (x : Float). T (le phase x)) (sym place-end) (le-value phase (bits 0x40c0_0000) (p .number) tt .1 (p .to))
+
+-- ---- THE STEPS at a phase from 0 to 6. The search may begin at any count up to 96, and has to go as far as 672.
+search-steps : (phase : Float) (n k : ℕ) → k < 96 → 671 ≤ n + k → Spanned phase → Steps phase (suc (fullFrom phase n k))
+search-steps phase n k s e p =
+    record {
+      some = one r;
+      reached = le-nlt phase (placeOf (suc r)) (p .number) (place-finite (suc r) (f .before)) (subst T (sym (f .reaches)) tt);
+      first = λ j a b. nle-lt phase (placeOf j) (p .number) (place-finite j (inside j r b (f .before))) (go j b (leb (suc k) j) (leb→le (suc k) j) (nleb→lt (suc k) j));
+      least = least (leb 96 (suc r)) (leb→le 96 (suc r)) (nleb→lt 96 (suc r));
+      most = f .before;
+    }
+  where
+    r : ℕ
+    r = fullFrom phase n k
+
+    f : Found phase k 672 r
+    f = found phase n k 672 (omega arith) (omega arith) (is-true (le phase (placeOf 672)) (end-reaches phase p))
+
+    one : (r : ℕ) → 1 ≤ suc r
+    one r = omega arith
+
+    inside : (j r : ℕ) → j < suc r → r < 672 → j ≤ 672
+    inside j r a b = omega arith
+
+    go : (j : ℕ) → j < suc r → (b : Bool) → (T b → k < j) → (T (not b) → j < suc k) → le phase (placeOf j) ≡ false
+    go j l true h i = f .passed j (h tt) (le-of-suc-le-suc l)
+    go j l false h i = let u : j < suc k = i tt in unreached phase j p (omega arith)
+
+    least : (b : Bool) → (T b → 96 ≤ suc r) → (T (not b) → suc r < 96) → 96 ≤ suc r
+    least true h i = h tt
+    least false h i = absurd (subst T (sym (f .reaches) ∙ unreached phase (suc r) p (i tt)) tt)
+
+pub steps-at : (phase : Float) → Spanned phase → Steps phase (suc (fullSteps phase))
+unfolding fullSteps
+steps-at phase p = search-steps phase _ _ (lit< tt) (lit≤ tt) p
