@@ -1,10 +1,10 @@
 -- `put_dot` puts `dotText`: nothing where the sheet does not draw the byte. Assumes nothing.
 use mathlib.Core.Path.{refl, sym, _∙_}
 use Rattle.text.proofs.Writing.{puts-none}
-use Rattle.parameter_rows.specs.Rows.{dotText}
+use Rattle.parameter_cells.specs.Cells.{dotText}
 use borrow.Author.Needs.{needs}
-use Rattle.parameter_rows.proofs.put_dot.Statement.{statement}
-use Rattle.parameter_rows.proofs.put_dot.Tie as tie
+use Rattle.parameter_cells.proofs.put_dot.Statement.{statement}
+use Rattle.parameter_cells.proofs.put_dot.Tie as tie
 
 returns : tie.Need-returns
 unfolding dotText

@@ -6,10 +6,10 @@ use borrow.Author.Tests.{lt-ltb, le-ltb}
 use Rattle.text.specs.Text.{ascii}
 use Rattle.words.specs.Words.{indexOf}
 use Rattle.text.proofs.Writing.{puts-as, puts-none}
-use Rattle.parameter_rows.specs.Rows.{groups, ruleText}
+use Rattle.parameter_cells.specs.Cells.{groups, ruleText}
 use borrow.Author.Needs.{needs}
-use Rattle.parameter_rows.proofs.put_rule.Statement.{statement}
-use Rattle.parameter_rows.proofs.put_rule.Tie as tie
+use Rattle.parameter_cells.proofs.put_rule.Statement.{statement}
+use Rattle.parameter_cells.proofs.put_rule.Tie as tie
 
 module _ (n i : ℕ) (e : i ≡ indexOf groups n) where
   first-of-a-group : i < 18 → ascii "<path d='M0-220h6100'/>" ≡ ruleText n

@@ -1,10 +1,10 @@
 -- `put_cells` puts `cellsText`: its parts, one after the other. Assumes nothing.
 use mathlib.Core.Path.{refl}
 use Rattle.text.proofs.Writing.{_⨾_}
-use Rattle.parameter_rows.specs.Rows.{cellsText}
+use Rattle.parameter_cells.specs.Cells.{cellsText}
 use borrow.Author.Needs.{needs}
-use Rattle.parameter_rows.proofs.put_cells.Statement.{statement}
-use Rattle.parameter_rows.proofs.put_cells.Tie as tie
+use Rattle.parameter_cells.proofs.put_cells.Statement.{statement}
+use Rattle.parameter_cells.proofs.put_cells.Tie as tie
 
 returns : tie.Need-returns
 unfolding cellsText
