@@ -1,10 +1,10 @@
 -- `put_line` puts `lineText`: its parts, one after the other. Assumes nothing.
 use mathlib.Core.Path.{refl}
 use Rattle.text.proofs.Writing.{_⨾_}
-use Rattle.undrawn_bytes.specs.Undrawn.{lineText}
+use Rattle.undrawn_lines.specs.Lines.{lineText}
 use borrow.Author.Needs.{needs}
-use Rattle.undrawn_bytes.proofs.put_line.Statement.{statement}
-use Rattle.undrawn_bytes.proofs.put_line.Tie as tie
+use Rattle.undrawn_lines.proofs.put_line.Statement.{statement}
+use Rattle.undrawn_lines.proofs.put_line.Tie as tie
 
 returns : tie.Need-returns
 unfolding lineText

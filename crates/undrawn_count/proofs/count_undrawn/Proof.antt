@@ -2,11 +2,11 @@
 use mathlib.Core.Path.{_≡_}
 use Prim.Native.Nat.{_-_, _≤_}
 use Rattle.code_bytes.specs.Bytes.{byteAt}
-use Rattle.undrawn_bytes.specs.Undrawn.{undrawnCount}
-use Rattle.undrawn_bytes.proofs.ByteLines.{none-counted, count-more, all-counted}
+use Rattle.undrawn_count.specs.Count.{undrawnCount}
+use Rattle.undrawn_count.proofs.ByteCount.{none-counted, count-more, all-counted}
 use borrow.Author.Needs.{needs}
-use Rattle.undrawn_bytes.proofs.count_undrawn.Statement.{statement}
-use Rattle.undrawn_bytes.proofs.count_undrawn.Tie as tie
+use Rattle.undrawn_count.proofs.count_undrawn.Statement.{statement}
+use Rattle.undrawn_count.proofs.count_undrawn.Tie as tie
 
 abbrev Inv-loop : tie.InvT-loop
 Inv-loop old new count₀ n₀ count n = (n ≤ 242) × (count ≤ n) × (count ≡ undrawnCount n (byteAt old) (byteAt new))

@@ -1,10 +1,10 @@
 -- `put_named` puts `namedText`: its parts, one after the other. Assumes nothing.
 use mathlib.Core.Path.{refl}
 use Rattle.text.proofs.Writing.{_⨾_}
-use Rattle.undrawn_bytes.specs.Undrawn.{namedText}
+use Rattle.undrawn_lines.specs.Lines.{namedText}
 use borrow.Author.Needs.{needs}
-use Rattle.undrawn_bytes.proofs.put_named.Statement.{statement}
-use Rattle.undrawn_bytes.proofs.put_named.Tie as tie
+use Rattle.undrawn_lines.proofs.put_named.Statement.{statement}
+use Rattle.undrawn_lines.proofs.put_named.Tie as tie
 
 returns : tie.Need-returns
 unfolding namedText

@@ -1,9 +1,9 @@
 -- `differs_undrawn` is `differs`. Assumes nothing.
 use borrow.Author.Tests.{eq-eqb, ne-eqb}
-use Rattle.undrawn_bytes.specs.Undrawn.{differs}
+use Rattle.undrawn_count.specs.Count.{differs}
 use borrow.Author.Needs.{needs}
-use Rattle.undrawn_bytes.proofs.differs_undrawn.Statement.{statement}
-use Rattle.undrawn_bytes.proofs.differs_undrawn.Tie as tie
+use Rattle.undrawn_count.proofs.differs_undrawn.Statement.{statement}
+use Rattle.undrawn_count.proofs.differs_undrawn.Tie as tie
 
 pub differs-undrawn-spec : {M : Type 1} → statement M
 unfolding differs

@@ -1,9 +1,9 @@
 -- `count_change` is `differCount`. Assumes nothing.
 use mathlib.Core.Path.{sym, _∙_}
-use Rattle.undrawn_bytes.specs.Undrawn.{differCount}
+use Rattle.undrawn_count.specs.Count.{differCount}
 use borrow.Author.Needs.{needs}
-use Rattle.undrawn_bytes.proofs.count_change.Statement.{statement}
-use Rattle.undrawn_bytes.proofs.count_change.Tie as tie
+use Rattle.undrawn_count.proofs.count_change.Statement.{statement}
+use Rattle.undrawn_count.proofs.count_change.Tie as tie
 
 pub count-change-spec : {M : Type 1} → statement M
 unfolding differCount

@@ -1,12 +1,12 @@
--- One byte more: its line is put, and it is counted. Assumes nothing.
-use mathlib.Core.Path.{_≡_, refl}
+-- One byte more: its line is put. Assumes nothing.
+use mathlib.Core.Path.{_≡_}
 use mathlib.Core.List.{List}
 use Prim.Native.Nat.{ℕ, _+_, _≤_}
 use native.Mathlib.Nat.{le-antisymm}
 use native.Mathlib.Numerals.{add-one}
 use Rattle.text.specs.Text.{Puts}
 use Rattle.text.proofs.Writing.{_⨾_, puts-none}
-use Rattle.undrawn_bytes.specs.Undrawn.{changeText, undrawnText, differCount, undrawnCount}
+use Rattle.undrawn_lines.specs.Lines.{changeText, undrawnText}
 
 module _ (a b : ℕ → ℕ) where
   pub no-line : {t : List ℕ} {p : ℕ} → Puts t p (undrawnText 0 a b) t p
@@ -19,14 +19,3 @@ module _ (a b : ℕ → ℕ) where
 
   pub all-lines : (k n : ℕ) {t t₁ : List ℕ} {p p₁ : ℕ} → k ≤ n → n ≤ k → Puts t p (undrawnText k a b) t₁ p₁ → Puts t p (undrawnText n a b) t₁ p₁
   all-lines k n h l f = let e : k ≡ n = le-antisymm h l in rw e at f
-
-  pub none-counted : 0 ≡ undrawnCount 0 a b
-  unfolding undrawnCount
-  none-counted = refl
-
-  pub count-more : (k n m : ℕ) → n ≡ undrawnCount k a b → m ≡ differCount k (a k) (b k) → n + m ≡ undrawnCount (k + 1) a b
-  unfolding undrawnCount
-  count-more k n m f g = rw (add-one k, f, g)
-
-  pub all-counted : (k n m : ℕ) → k ≤ n → n ≤ k → m ≡ undrawnCount k a b → m ≡ undrawnCount n a b
-  all-counted k n m h l f = let e : k ≡ n = le-antisymm h l in rw e at f

@@ -8,7 +8,7 @@ use native.Mathlib.Omega.{arith}
 use borrow.Author.Tests.{eqb-true}
 use lib.Dec.{eqb}
 use Rattle.drawn_bytes.specs.Drawn.{drawn}
-use Rattle.undrawn_bytes.specs.Undrawn.{differs, differCount, undrawnCount}
+use Rattle.undrawn_count.specs.Count.{differs, differCount, undrawnCount}
 
 uncounted : (t : Bool) → _≡_ {A = ℕ} (cond t 1 0) 0 → t ≡ false
 uncounted true e = absurd (omega arith)

@@ -4,11 +4,11 @@ use Prim.Native.Nat.{_-_, _≤_}
 use lib.ListN.{length}
 use Rattle.text.specs.Text.{Puts}
 use Rattle.code_bytes.specs.Bytes.{byteAt}
-use Rattle.undrawn_bytes.specs.Undrawn.{undrawnText}
-use Rattle.undrawn_bytes.proofs.ByteLines.{no-line, line-more, all-lines}
+use Rattle.undrawn_lines.specs.Lines.{undrawnText}
+use Rattle.undrawn_lines.proofs.ByteLines.{no-line, line-more, all-lines}
 use borrow.Author.Needs.{needs}
-use Rattle.undrawn_bytes.proofs.put_undrawn.Statement.{statement}
-use Rattle.undrawn_bytes.proofs.put_undrawn.Tie as tie
+use Rattle.undrawn_lines.proofs.put_undrawn.Statement.{statement}
+use Rattle.undrawn_lines.proofs.put_undrawn.Tie as tie
 
 abbrev Inv-loop : tie.InvT-loop
 Inv-loop out₀ at old new next₀ n₀ out next n = (n ≤ 242) × (length out ≡ length out₀) × Puts out₀ at (undrawnText n (byteAt old) (byteAt new)) out next

@@ -1,10 +1,10 @@
 -- `put_change` puts `changeText`: nothing where the byte is the same or is drawn. Assumes nothing.
 use mathlib.Core.Path.{sym, _∙_}
 use Rattle.text.proofs.Writing.{puts-none}
-use Rattle.undrawn_bytes.specs.Undrawn.{changeText}
+use Rattle.undrawn_lines.specs.Lines.{changeText}
 use borrow.Author.Needs.{needs}
-use Rattle.undrawn_bytes.proofs.put_change.Statement.{statement}
-use Rattle.undrawn_bytes.proofs.put_change.Tie as tie
+use Rattle.undrawn_lines.proofs.put_change.Statement.{statement}
+use Rattle.undrawn_lines.proofs.put_change.Tie as tie
 
 returns : tie.Need-returns
 unfolding changeText
