@@ -8,7 +8,7 @@ use Rattle.code_bytes.specs.Bytes.{bytesOf}
 use Rattle.codes.specs.declared.EnvelopeId.the-variants.{Vca, Vcf, Mod}
 use Rattle.codes.specs.declared.LfoId.the-variants.{One, Two}
 use Rattle.codes.specs.declared.Code.the-variants.{Envelope, Lfo}
-use Rattle.labels.specs.Names.{byteName}
+use Rattle.byte_names.specs.ByteNames.{byteName}
 
 abbrev namesOf : List ℕ → List (List ℕ)
 namesOf [] = []

@@ -1,7 +1,7 @@
 -- `put_other_name` puts `otherName`: the word at the byte's place in the list. Assumes nothing.
 use borrow.Author.Needs.{needs}
-use Rattle.labels.proofs.put_other_name.Statement.{statement}
-use Rattle.labels.proofs.put_other_name.Tie as tie
+use Rattle.byte_names.proofs.put_other_name.Statement.{statement}
+use Rattle.byte_names.proofs.put_other_name.Tie as tie
 
 pub put-other-name-spec : {M : Type 1} → statement M
 put-other-name-spec =

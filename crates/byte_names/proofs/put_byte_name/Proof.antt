@@ -1,9 +1,9 @@
 -- `put_byte_name` puts `byteName`. Assumes nothing.
 use borrow.Author.Tests.{lt-ltb, le-ltb}
-use Rattle.labels.specs.Names.{byteName}
+use Rattle.byte_names.specs.ByteNames.{byteName}
 use borrow.Author.Needs.{needs}
-use Rattle.labels.proofs.put_byte_name.Statement.{statement}
-use Rattle.labels.proofs.put_byte_name.Tie as tie
+use Rattle.byte_names.proofs.put_byte_name.Statement.{statement}
+use Rattle.byte_names.proofs.put_byte_name.Tie as tie
 
 returns : tie.Need-returns
 unfolding byteName
