@@ -9,9 +9,9 @@ use borrow.Author.Tests.{lt-ltb, le-ltb}
 use lib.Dec.{ltb→lt}
 use lib.ListN.{length, drop, getD, drop-of-length-le}
 use lib.Seq.{drop-cons}
-use Rattle.rows.specs.declared.Number.{Number}
-use Rattle.rows.specs.declared.Number.the-variants.{Value, NotANumber}
-use Rattle.rows.specs.Reading.{readAfter}
+use Rattle.decimal_reading.specs.declared.Number.{Number}
+use Rattle.decimal_reading.specs.declared.Number.the-variants.{Value, NotANumber}
+use Rattle.decimal_reading.specs.Reading.{readAfter}
 
 -- Fewer than nine digits stand for a number below a hundred million.
 pub small : (n i : ℕ) → n < 10 ^ i → i < 9 → n < 100000000

@@ -4,8 +4,8 @@ use mathlib.Core.List.{List, [], _∷_}
 use Prim.Native.Nat.{ℕ, _+_, _-_, _*_}
 use lib.Dec.{ltb, eqb}
 use lib.ListN.{length}
-use Rattle.rows.specs.declared.Number.{Number}
-use Rattle.rows.specs.declared.Number.the-variants.{Value, NotANumber}
+use Rattle.decimal_reading.specs.declared.Number.{Number}
+use Rattle.decimal_reading.specs.declared.Number.the-variants.{Value, NotANumber}
 
 -- The digits of a text, after others that stand for n; any other character is refused.
 unfoldable pub readAfter : ℕ → List ℕ → Number

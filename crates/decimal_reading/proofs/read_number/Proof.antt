@@ -4,11 +4,11 @@ use Prim.Native.Nat.{_-_, _^_, _<_, _≤_}
 use native.Mathlib.Omega.{arith}
 use borrow.Author.Tests.{ne-eqb, lt-ltb, le-ltb}
 use lib.ListN.{length, drop}
-use Rattle.rows.specs.Reading.{readAfter, readOf}
-use Rattle.rows.proofs.Reading.{small, digit-small, read-more, read-below, read-above, read-whole}
+use Rattle.decimal_reading.specs.Reading.{readAfter, readOf}
+use Rattle.decimal_reading.proofs.Reading.{small, digit-small, read-more, read-below, read-above, read-whole}
 use borrow.Author.Needs.{needs}
-use Rattle.rows.proofs.read_number.Statement.{statement}
-use Rattle.rows.proofs.read_number.Tie as tie
+use Rattle.decimal_reading.proofs.read_number.Statement.{statement}
+use Rattle.decimal_reading.proofs.read_number.Tie as tie
 
 abbrev Inv-loop : tie.InvT-loop
 Inv-loop text value₀ i₀ value i = (i ≤ length text) × (length text ≤ 9) × (value < 10 ^ i) × (readAfter value (drop i text) ≡ readOf text)
