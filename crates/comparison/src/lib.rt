@@ -30,8 +30,8 @@ use program_name::put_name_in_line;
 use rows::put_nine_places;
 use strip::sample_position;
 use text::put;
-use undrawn_bytes::count_undrawn;
 use undrawn_bytes::put_undrawn_part;
+use undrawn_count::count_undrawn;
 
 // The byte of the gates.
 const GATE: [u8; 1] = [GATE_TIME as u8];

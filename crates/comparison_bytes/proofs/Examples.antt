@@ -5,7 +5,7 @@ use Prim.Native.Nat.{ℕ, _+_}
 use Rattle.text.specs.Text.{ascii}
 use Rattle.words.specs.Words.{firstWord, pastBar, wordOf, indexOf}
 use Rattle.numerals.specs.Spelled.{glyphOf, digitsOf, placesFrom, decimalOf}
-use Rattle.labels.specs.Names.{byteName}
+use Rattle.byte_names.specs.ByteNames.{byteName}
 use Rattle.comparison_bytes.specs.Changes.{changeText, changesText}
 
 -- Bytes that grow by 7 give the line of each.

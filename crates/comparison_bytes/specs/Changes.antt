@@ -5,7 +5,7 @@ use Prim.Native.Nat.{ℕ}
 use lib.Dec.{eqb}
 use Rattle.text.specs.Text.{ascii}
 use Rattle.numerals.specs.Spelled.{decimalOf}
-use Rattle.labels.specs.Names.{byteName}
+use Rattle.byte_names.specs.ByteNames.{byteName}
 
 -- Two readings have each byte of a list the same.
 unfoldable pub sameBytes : List ℕ → (ℕ → ℕ) → (ℕ → ℕ) → Bool

@@ -3,9 +3,9 @@ ghost use mathlib.Core.Path.{_≡_};
 ghost use Rattle.text.specs.Text.{Puts};
 ghost use Rattle.code_bytes.specs.Bytes.{bytesOf, byteAt};
 ghost use Rattle.comparison_bytes.specs.Changes.{sameBytes, changeText, changesText};
+use byte_names::put_byte_name;
 use code_bytes::bytes_of;
 use codes::Code;
-use labels::put_byte_name;
 use numerals::put_decimal;
 use text::put;
 

@@ -4,6 +4,7 @@ use mathlib.Core.List.{List, [], _∷_, _++_}
 use Prim.Native.Nat.{ℕ, _+_, _/_, _%_}
 use lib.Dec.{ltb, leb, eqb}
 use Rattle.text.specs.Text.{ascii}
+use Rattle.words.specs.Words.{wordOf, indexOf}
 
 -- The character of a digit below 16: 0 to 9, then A to F.
 unfoldable pub upperOf : ℕ → ℕ
@@ -17,14 +18,16 @@ hexByteOf b = ascii "\\x" ++ (upperOf (b / 16) ∷ []) ++ (upperOf (b % 16) ∷ 
 unfoldable pub shownOf : ℕ → List ℕ
 shownOf b = cond (ltb b 32) (hexByteOf b) (cond (ltb 126 b) (hexByteOf b) (b ∷ []))
 
+-- What has a meaning of its own in XML, and its entities.
+abbrev pub marks : List ℕ
+marks = ascii "&<>\"'"
+
+abbrev pub entities : List ℕ
+entities = ascii "&amp;|&lt;|&gt;|&quot;|&#39;"
+
 -- A byte as XML text, in an element or in an attribute: & < > " ' by their entities.
 unfoldable pub escapedOf : ℕ → List ℕ
-escapedOf b =
-    cond (eqb b 38) (ascii "&amp;")
-    (cond (eqb b 60) (ascii "&lt;")
-    (cond (eqb b 62) (ascii "&gt;")
-    (cond (eqb b 34) (ascii "&quot;")
-    (cond (eqb b 39) (ascii "&#39;") (shownOf b)))))
+escapedOf b = cond (ltb (indexOf marks b) 5) (wordOf entities (indexOf marks b)) (shownOf b)
 
 -- Each byte of a text by f, one after the other.
 unfoldable pub allBy : (ℕ → List ℕ) → List ℕ → List ℕ

@@ -5,6 +5,8 @@ ghost use Rattle.text.specs.Text.{Puts};
 ghost use Rattle.escapes.specs.Escaped.{upperOf, hexByteOf, shownOf, escapedOf, escapedAll, shownAll};
 use text::put;
 use text::put_byte;
+use words::index_of;
+use words::put_word;
 
 // The character of a digit, in capitals.
 fn upper(d: u8) -> u8
@@ -39,24 +41,13 @@ fn put_shown(out: &mut [u8], at: usize, b: u8) -> usize
     put_byte(out, at, b)
 }
 
-// Any byte as XML text.
+// Any byte as XML text: one that has a meaning of its own there by its entity.
 pub fn put_escaped(out: &mut [u8], at: usize, b: u8) -> usize
     ensures { λ r. ⌜ Puts (now (out .entry)) at (escapedOf b) (now (out .exit)) r ⌝ }
 {
-    if b == 38 {
-        return put(out, at, b"&amp;");
-    }
-    if b == 60 {
-        return put(out, at, b"&lt;");
-    }
-    if b == 62 {
-        return put(out, at, b"&gt;");
-    }
-    if b == 34 {
-        return put(out, at, b"&quot;");
-    }
-    if b == 39 {
-        return put(out, at, b"&#39;");
+    let k = index_of(b"&<>\"'", b);
+    if k < 5 {
+        return put_word(out, at, b"&amp;|&lt;|&gt;|&quot;|&#39;", k);
     }
     put_shown(out, at, b)
 }

@@ -3,13 +3,13 @@ ghost use mathlib.Core.Path.{_≡_};
 ghost use Prim.Native.Nat.{_≤_};
 ghost use lib.ListN.{length};
 use block_strip::StripAnswer;
+use decimal_reading::Number;
+use decimal_reading::read_number;
 use libc::STDIN_FILENO;
 use libc::STDOUT_FILENO;
 use refusals::Refusal;
 use refusals::refusal_number;
-use rows::Number;
 use rows::put_rows;
-use rows::read_number;
 
 // Room for one sample more than the longest strip has, and for the rows of that. The contracts give the lengths only, which lending them as slices asks for.
 fn samples() -> [f32; 4097]

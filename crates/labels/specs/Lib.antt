@@ -1,3 +1,3 @@
--- The names of generators and of their bytes, and what a byte stands for.
-pub mod Names
+-- The titles of panels, and what a byte stands for.
+pub mod Titles
 pub mod Notes

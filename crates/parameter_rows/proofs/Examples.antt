@@ -6,7 +6,9 @@ use Rattle.words.specs.Words.{firstWord, pastBar, wordOf, indexOf}
 use Rattle.codes.specs.Codes.{codes, codeIn}
 use Rattle.code_bytes.specs.Bytes.{bytesOf}
 use Rattle.drawn_bytes.specs.Drawn.{readBy, drawnBy, drawn}
-use Rattle.parameter_rows.specs.Rows.{placeText, ruleText, dotText, cellsText, rowText}
+use Rattle.parameter_places.specs.Places.{placeText}
+use Rattle.parameter_cells.specs.Cells.{ruleText, dotText, cellsText}
+use Rattle.parameter_rows.specs.Rows.{rowText}
 
 second-lfo : rowText 7 108 ≡ ascii "<g transform='translate(1150 4150)'><path d='M0-220h6100'/><text class='k' x='640'>7</text><text x='800'>LFO 2 Rate</text><text class='b' x='6020'>108</text></g>\n"
 unfolding rowText placeText ruleText dotText cellsText decimalOf digitsOf placesFrom glyphOf firstWord pastBar wordOf indexOf readBy drawnBy drawn codeIn codes bytesOf

@@ -1,6 +1,5 @@
--- A row and numbers, computed from their definitions. Assumes nothing.
+-- A row, computed from its definition. Assumes nothing.
 use mathlib.Core.Path.{_≡_, refl}
-use mathlib.Core.List.{[]}
 use lib.Ieee.{ofBits, toBits, isNan, lt}
 use Rattle.exact.specs.Value.{value}
 use Rattle.exact.specs.Binary32.{bits}
@@ -9,26 +8,8 @@ use Rattle.curve.specs.Curve.{positionOf}
 use Rattle.text.specs.Text.{ascii}
 use Rattle.numerals.specs.Spelled.{glyphOf, digitsOf, placesFrom, decimalOf, hexOf, fixedOf}
 use Rattle.fixed_point.specs.Nearest.{nearestOf}
-use Rattle.rows.specs.declared.Number.the-variants.{Value, NotANumber}
 use Rattle.rows.specs.Rows.{ninePlaces, decimalsText, rowText}
-use Rattle.rows.specs.Reading.{readAfter, readOf}
 
 row : rowText (bits 0x3f00_0000) (bits 0x3f3b_26a8) ≡ ascii "0.500000000 0.731058598 3f000000 3f3b26a8\n"
 unfolding rowText decimalsText ninePlaces fixedOf hexOf decimalOf digitsOf placesFrom glyphOf nearestOf positionOf value ofBits toBits isNan lt clampOf
 row = refl
-
-samples : readOf (ascii "1025") ≡ Value 1025
-unfolding readOf readAfter
-samples = refl
-
-letter : readOf (ascii "12a") ≡ NotANumber
-unfolding readOf readAfter
-letter = refl
-
-nothing : readOf [] ≡ NotANumber
-unfolding readOf readAfter
-nothing = refl
-
-ten : readOf (ascii "1234567890") ≡ NotANumber
-unfolding readOf readAfter
-ten = refl

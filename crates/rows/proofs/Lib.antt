@@ -1,4 +1,3 @@
--- What the loops need: one row more, one digit more.
+-- What the loop needs: one row more; a row, computed.
 pub mod Rows
-pub mod Reading
 pub mod Examples

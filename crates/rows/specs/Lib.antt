@@ -1,3 +1,2 @@
--- A strip as text, and a number read from its digits.
+-- A strip as text.
 pub mod Rows
-pub mod Reading

@@ -1,10 +1,8 @@
-// A strip as text, a row for each sample, and a number read from its digits.
-ghost use mathlib.Core.Path.{_≡_};
+// A strip as text, a row for each sample.
 ghost use Prim.Native.Nat.{_<_, _≤_};
 ghost use lib.ListN.{length};
 ghost use Rattle.text.specs.Text.{Puts};
 ghost use Rattle.rows.specs.Rows.{ninePlaces, decimalsText, rowText, sampleText, someRows, rowsText};
-ghost use Rattle.rows.specs.Reading.{readOf};
 use fixed_point::nearest;
 use float_bits::word_of;
 use numerals::put_fixed;
@@ -18,16 +16,6 @@ const MAX_ROWS: usize = 65536;
 // A row has nine places of each number.
 const BILLION: u32 = 1_000_000_000;
 
-// What digits stand for.
-pub enum Number {
-    Value(u64),
-    NotANumber,
-}
-
-// The most digits that are read.
-const MAX_DIGITS: usize = 9;
-
-// ---- rows
 // A number from 0 to 1 in nine places.
 pub fn put_nine_places(out: &mut [u8], at: usize, x: f32) -> usize
     ensures { λ r. ⌜ Puts (now (out .entry)) at (ninePlaces x) (now (out .exit)) r ⌝ }
@@ -86,31 +74,4 @@ pub fn put_rows(out: &mut [u8], at: usize, heights: &[f32]) -> usize
         return put_samples(out, at, heights);
     }
     at
-}
-
-// ---- a number
-// The number of up to nine decimal digits.
-pub fn read_number(text: &[u8]) -> Number
-    ensures { λ r. ⌜ r ≡ readOf (now (text .entry)) ⌝ }
-{
-    if text.len() == 0 {
-        return Number::NotANumber;
-    }
-    if MAX_DIGITS < text.len() {
-        return Number::NotANumber;
-    }
-    let mut value: u64 = 0;
-    let mut i: usize = 0;
-    while i < text.len() {
-        let c = text[i];
-        if c < 48 {
-            return Number::NotANumber;
-        }
-        if 57 < c {
-            return Number::NotANumber;
-        }
-        value = value * 10 + (c - 48) as u64;
-        i += 1;
-    }
-    Number::Value(value)
 }

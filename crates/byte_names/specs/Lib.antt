@@ -1,0 +1,2 @@
+-- The names of bytes.
+pub mod ByteNames

@@ -1,0 +1,2 @@
+-- A number read from its digits.
+pub mod Reading

@@ -1,0 +1,2 @@
+-- Where the rows of the page of all parameters stand.
+pub mod Places

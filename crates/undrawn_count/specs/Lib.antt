@@ -1,0 +1,2 @@
+-- How many of the bytes that no curve draws differ.
+pub mod Count

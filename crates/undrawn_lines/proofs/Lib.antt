@@ -1,0 +1,2 @@
+-- What the loop needs.
+pub mod ByteLines

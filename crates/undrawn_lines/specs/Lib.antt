@@ -1,0 +1,2 @@
+-- The lines of the bytes that no curve draws.
+pub mod Lines
