@@ -2,10 +2,10 @@
 use Rattle.text.proofs.Writing.{_⨾_}
 use mathlib.Core.Path.{refl}
 use native.Mathlib.Omega.{arith}
-use Rattle.dials.specs.Dials.{envelopeDials}
+use Rattle.modulator_dials.specs.Modulators.{envelopeDials}
 use borrow.Author.Needs.{needs}
-use Rattle.dials.proofs.envelope_dials.Statement.{statement}
-use Rattle.dials.proofs.envelope_dials.Tie as tie
+use Rattle.modulator_dials.proofs.envelope_dials.Statement.{statement}
+use Rattle.modulator_dials.proofs.envelope_dials.Tie as tie
 
 returns : tie.Need-returns
 unfolding envelopeDials

@@ -2,10 +2,10 @@
 use Rattle.text.proofs.Writing.{_⨾_}
 use mathlib.Core.Path.{refl}
 use native.Mathlib.Omega.{arith}
-use Rattle.dials.specs.Dials.{lfoDials}
+use Rattle.modulator_dials.specs.Modulators.{lfoDials}
 use borrow.Author.Needs.{needs}
-use Rattle.dials.proofs.lfo_dials.Statement.{statement}
-use Rattle.dials.proofs.lfo_dials.Tie as tie
+use Rattle.modulator_dials.proofs.lfo_dials.Statement.{statement}
+use Rattle.modulator_dials.proofs.lfo_dials.Tie as tie
 
 returns : tie.Need-returns
 unfolding lfoDials

@@ -1,10 +1,10 @@
 -- `oscillator_dials` writes `oscillatorDials`: its parts, one after the other. Assumes nothing.
 use Rattle.text.proofs.Writing.{_⨾_}
 use mathlib.Core.Path.{refl}
-use Rattle.dials.specs.Dials.{oscillatorDials}
+use Rattle.tone_dials.specs.Tones.{oscillatorDials}
 use borrow.Author.Needs.{needs}
-use Rattle.dials.proofs.oscillator_dials.Statement.{statement}
-use Rattle.dials.proofs.oscillator_dials.Tie as tie
+use Rattle.tone_dials.proofs.oscillator_dials.Statement.{statement}
+use Rattle.tone_dials.proofs.oscillator_dials.Tie as tie
 
 returns : tie.Need-returns
 unfolding oscillatorDials

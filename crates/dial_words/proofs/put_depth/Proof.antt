@@ -1,10 +1,10 @@
 -- `put_depth` writes `depthDial` of the two bytes, and of the source's. Assumes nothing.
 use Rattle.text.proofs.Writing.{_⨾_}
 use mathlib.Core.Path.{refl}
 use Rattle.dial_lines.specs.Lines.{dialText}
 use borrow.Author.Needs.{needs}
-use Rattle.dial_lines.proofs.put_depth.Statement.{statement}
-use Rattle.dial_lines.proofs.put_depth.Tie as tie
+use Rattle.dial_words.proofs.put_depth.Statement.{statement}
+use Rattle.dial_words.proofs.put_depth.Tie as tie
 
 returns : tie.Need-returns
 unfolding dialText

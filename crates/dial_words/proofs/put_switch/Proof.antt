@@ -1,9 +1,9 @@
 -- `put_switch` writes `switchDial` of the two bytes. Assumes nothing.
 use Rattle.text.proofs.Writing.{_⨾_}
 use Rattle.dial_lines.specs.Lines.{dialText}
 use borrow.Author.Needs.{needs}
-use Rattle.dial_lines.proofs.put_switch.Statement.{statement}
-use Rattle.dial_lines.proofs.put_switch.Tie as tie
+use Rattle.dial_words.proofs.put_switch.Statement.{statement}
+use Rattle.dial_words.proofs.put_switch.Tie as tie
 
 returns : tie.Need-returns
 unfolding dialText

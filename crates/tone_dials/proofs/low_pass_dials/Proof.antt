@@ -1,10 +1,10 @@
 -- `low_pass_dials` writes `lowPassDials`: its parts, one after the other. Assumes nothing.
 use Rattle.text.proofs.Writing.{_⨾_}
 use mathlib.Core.Path.{refl}
-use Rattle.dials.specs.Dials.{lowPassDials}
+use Rattle.tone_dials.specs.Tones.{lowPassDials}
 use borrow.Author.Needs.{needs}
-use Rattle.dials.proofs.low_pass_dials.Statement.{statement}
-use Rattle.dials.proofs.low_pass_dials.Tie as tie
+use Rattle.tone_dials.proofs.low_pass_dials.Statement.{statement}
+use Rattle.tone_dials.proofs.low_pass_dials.Tie as tie
 
 returns : tie.Need-returns
 unfolding lowPassDials
