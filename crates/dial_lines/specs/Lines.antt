@@ -4,7 +4,6 @@ use mathlib.Core.List.{List, _++_}
 use Prim.Native.Nat.{ℕ}
 use Rattle.text.specs.Text.{ascii}
 use Rattle.numerals.specs.Spelled.{decimalOf}
-use Rattle.labels.specs.Notes.{switchNote, shapeNote, polesNote, sourceNote, depthNote}
 use Rattle.dial_start.specs.Start.{wasText, dialStart, dialEnd}
 
 -- How far below the frame the four lines are, in hundredths of a millimetre.
@@ -28,26 +27,12 @@ dialText y name was b note = dialStart y name was b ++ note ++ dialEnd
 unfoldable pub plainDial : ℕ → List ℕ → ℕ → ℕ → List ℕ
 plainDial y name was b = dialStart y name was b ++ dialEnd
 
--- A time or level of an envelope, with its curve for a note: the curve's byte is to be dialled in too, so it is bold, and says what it was.
-unfoldable pub curvedDial : ℕ → List ℕ → ℕ → ℕ → ℕ → ℕ → List ℕ
-curvedDial y name was b curveWas curve =
-    dialStart y name was b ++ ascii "curve <tspan class='b'>" ++ decimalOf curve ++ ascii "</tspan>" ++ wasText curveWas curve ++ dialEnd
+-- The note of an envelope's time or level is its curve. The curve's byte is to be dialled in too, so it is bold, and says what it was.
+unfoldable pub curveNote : ℕ → ℕ → List ℕ
+curveNote was curve = ascii "curve <tspan class='b'>" ++ decimalOf curve ++ ascii "</tspan>" ++ wasText was curve
 
-abbrev pub switchDial : ℕ → List ℕ → ℕ → ℕ → List ℕ
-switchDial y name was b = dialText y name was b (switchNote b)
-
-abbrev pub shapeDial : ℕ → ℕ → List ℕ
-shapeDial was b = dialText lineOne (ascii "Shape") was b (shapeNote b)
-
-abbrev pub polesDial : ℕ → ℕ → List ℕ
-polesDial was b = dialText lineTwo (ascii "Pole mode") was b (polesNote b)
-
-abbrev pub sourceDial : ℕ → ℕ → List ℕ
-sourceDial was b = dialText lineThree (ascii "PWM source") was b (sourceNote b)
-
--- The depth, whose note depends on the source.
-abbrev pub depthDial : ℕ → ℕ → ℕ → List ℕ
-depthDial was b source = dialText lineFour (ascii "PWM depth") was b (depthNote source)
+abbrev pub curvedDial : ℕ → List ℕ → ℕ → ℕ → ℕ → ℕ → List ℕ
+curvedDial y name was b curveWas curve = dialText y name was b (curveNote curveWas curve)
 
 -- The only dial of a generator.
 abbrev pub onlyDial : List ℕ → ℕ → ℕ → List ℕ

@@ -6,7 +6,8 @@ use Prim.Native.Nat.{ℕ}
 use lib.Dec.{eqb}
 use lib.ListN.{length}
 use Rattle.code_bytes.specs.Bytes.{byteAt, gatesByte, blockLength}
-use Rattle.page_panels.specs.Panels.{panelsText, arpeggioText}
+use Rattle.arpeggio_panel.specs.Arpeggio.{arpeggioText}
+use Rattle.page_panels.specs.Panels.{panelsText}
 use Rattle.page_head.specs.Head.{styleText, headText, comparedHead, footText}
 
 -- ---- the whole

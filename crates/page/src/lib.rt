@@ -4,12 +4,12 @@ ghost use lib.ListN.{length};
 ghost use Rattle.text.specs.Text.{Puts};
 ghost use Rattle.code_bytes.specs.Bytes.{blockLength};
 ghost use Rattle.page.specs.Page.{bodyText, pageOf, comparisonOf, pageText, comparisonText};
+use arpeggio_panel::put_arpeggio;
 use block::BLOCK;
 use page_head::put_compared_head;
 use page_head::put_foot;
 use page_head::put_head;
 use page_head::put_style;
-use page_panels::put_arpeggio;
 use page_panels::put_panels;
 
 // ---- the whole

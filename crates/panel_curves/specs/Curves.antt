@@ -8,7 +8,9 @@ use Rattle.generator.specs.declared.Shape.{Shape}
 use Rattle.generator.specs.Generator.{scaleOf, restOf, anchoredOf, marksOf}
 use Rattle.strip.specs.Strip.{stripOf}
 use Rattle.panel_labels.specs.Labels.{subtitleText}
-use Rattle.panel.specs.Pieces.{restText, curveText, olderCurveText}
+use Rattle.panel_frame.specs.Frame.{restText}
+use Rattle.panel_line.specs.Line.{curveText}
+use Rattle.older_curve.specs.Older.{olderCurveText}
 use Rattle.panel_marks.specs.Rules.{marksText}
 
 -- What a strip of 501 samples holds before it is filled.

@@ -9,7 +9,7 @@ use builders::of_shape;
 use code_shapes::shape_at;
 use code_strip::strip_at;
 use codes::Code;
-use panel::SAMPLES;
+use panel_line::SAMPLES;
 
 // What is drawn of a code's generator.
 pub fn put_drawn(out: &mut [u8], at: usize, block: &[u8], code: Code) -> usize
@@ -20,9 +20,9 @@ pub fn put_drawn(out: &mut [u8], at: usize, block: &[u8], code: Code) -> usize
     strip_at(block, code, &mut heights);
     let g = of_shape(shape_at(block, code));
     let mut next = panel_labels::put_subtitle(out, at, g.scale(), g.anchored());
-    next = panel::put_rest(out, next, g.rest());
+    next = panel_frame::put_rest(out, next, g.rest());
     next = panel_marks::put_marks(out, next, g.marks());
-    panel::put_curve(out, next, &heights)
+    panel_line::put_curve(out, next, &heights)
 }
 
 // The curve of an older program's generator, where it differs.
@@ -34,5 +34,5 @@ pub fn put_older(out: &mut [u8], at: usize, older: &[u8], block: &[u8], code: Co
     let mut new = [0.0f32; SAMPLES];
     strip_at(older, code, &mut old);
     strip_at(block, code, &mut new);
-    panel::put_older_curve(out, at, &old, &new)
+    older_curve::put_older_curve(out, at, &old, &new)
 }

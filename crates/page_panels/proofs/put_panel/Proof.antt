@@ -8,15 +8,12 @@ use Rattle.page_panels.proofs.put_panel.Tie as tie
 returns : tie.Need-returns
 unfolding codePanel
 returns c =
-    c .before .before .before .before .before .before .before .before .before .before .before .before .before .before .before .before .before .before .before .before .before .before .before .before .before .before .put-place .ensures ⨾
-    c .before .before .before .before .before .before .before .before .before .before .before .before .before .before .before .before .before .before .before .before .before .before .put-older .ensures ⨾
-    c .before .before .before .before .before .before .before .before .before .before .before .before .before .before .before .before .before .before .put-drawn .ensures ⨾
-    c .before .before .before .before .before .before .before .before .before .before .before .before .before .before .put-title .ensures ⨾
-    c .before .before .before .before .before .before .before .before .before .before .put-frame .ensures ⨾
-    c .before .before .before .before .before .before .put-dials .ensures ⨾
-    c .before .before .put-end .ensures
+    c .before .before .before .before .before .before .before .before .before .before .before .before .before .before .put-place .ensures ⨾
+    c .before .before .before .before .before .before .before .before .before .before .put-older .ensures ⨾
+    c .before .before .before .before .before .before .put-drawn .ensures ⨾
+    c .before .before .end-panel .ensures
 
 pub put-panel-spec : {M : Type 1} → statement M
 put-panel-spec = tie.close
     (tie.spec (λ c κs. search needs) (λ c κs. search needs) (λ c κs. search needs) (λ c κs. search needs)
-    (λ c κs. search needs) (λ c κs. search needs) (λ c κs. search needs) (λ c. search needs) returns)
+    (λ c. search needs) returns)

@@ -1,0 +1,2 @@
+-- The panel of the arpeggio.
+pub mod Arpeggio

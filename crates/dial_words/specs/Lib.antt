@@ -1,0 +1,2 @@
+-- The lines whose note is a word.
+pub mod Words

@@ -1,0 +1,2 @@
+-- The curve of an older program.
+pub mod Older

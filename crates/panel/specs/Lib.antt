@@ -1,2 +1,0 @@
--- The pieces of a panel.
-pub mod Pieces

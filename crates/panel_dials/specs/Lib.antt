@@ -1,0 +1,2 @@
+-- The rest of a code's panel.
+pub mod Rest

@@ -1,0 +1,2 @@
+-- The frame of a panel.
+pub mod Frame

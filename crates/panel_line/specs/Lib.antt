@@ -1,0 +1,2 @@
+-- The curve of a panel, as a line.
+pub mod Line
