@@ -1,4 +1,4 @@
-// The strips of an LFO and of its fade. The caller has tested the length. A loop answers the sum of the steps, which only an LFO with slew takes.
+// The strips of an LFO. The caller has tested the length. A loop answers the sum of the steps, which only an LFO with slew takes.
 ghost use mathlib.Core.Path.{_≡_};
 ghost use mathlib.Core.Bool.{true, false};
 ghost use Prim.Native.Nat.{_≤_};
@@ -6,11 +6,9 @@ ghost use lib.ListN.{length};
 ghost use lib.Ieee.{le};
 ghost use Rattle.exact.specs.Binary32.{zero₃₂};
 ghost use Rattle.strip.specs.Strip.{filledOf, stepSum};
-use fade::fade_height;
 use generator::Shape;
 use lfo::slewed_height;
 use lfo::unslewed_sample;
-use settings::Fade;
 use settings::Lfo;
 use strip::last_of;
 use strip::sample_position;
@@ -57,19 +55,4 @@ pub fn fill_lfo(l: Lfo, out: &mut [f32]) -> u32
         return fill_unslewed(l, out);
     }
     fill_slewed(l, out)
-}
-
-// Its fade.
-pub fn fill_fade(f: Fade, out: &mut [f32]) -> u32
-    requires { ⌜ (2 ≤ length (now out)) × (length (now out) ≤ 4096) ⌝ }
-    ensures { λ r. ⌜ (r ≡ stepSum (Shape.Fade f) (length (now (out .entry))) (length (now (out .entry)))) × (now (out .exit) ≡ filledOf (Shape.Fade f) (length (now (out .entry))) (length (now (out .entry))) (now (out .entry))) ⌝ }
-{
-    let n = out.len();
-    let last = last_of(n);
-    let mut i: usize = 0;
-    while i < n {
-        out[i] = fade_height(f, sample_position(i as u16, last)).height;
-        i += 1;
-    }
-    0
 }

@@ -8,8 +8,8 @@ use Rattle.fade.specs.Formula.{fadeHeightOf}
 use Rattle.generator.specs.declared.Shape.the-variants.{Fade as AFade}
 use Rattle.generator.specs.Heights.{heightOf}
 use Rattle.strip.proofs.Filling.{Filled, filled-none, filled-next, stepless, filled-whole}
-use Rattle.lfo_strip.proofs.fill_fade.Statement.{statement}
-use Rattle.lfo_strip.proofs.fill_fade.Tie as tie
+use Rattle.fade_strip.proofs.fill_fade.Statement.{statement}
+use Rattle.fade_strip.proofs.fill_fade.Tie as tie
 
 abbrev Inv-loop : tie.InvT-loop
 Inv-loop f out₀ n last i₀ out i = Filled (AFade f) n i out₀ out
