@@ -8,12 +8,12 @@ use Rattle.rows.proofs.put_row.Tie as tie
 
 returns : tie.Need-returns
 unfolding rowText
-returns c = simp (← c .before .before .before .before .before .before .before .before .before .before .before .before .before .before .before .before .before .before .word-of .ensures, ← c .before .before .before .before .before .before .before .before .word-of2 .ensures)
-    (c .before .before .before .before .before .before .before .before .before .before .before .before .before .before .before .before .before .before .before .before .before .before .put-decimals .ensures ⨾
-    c .before .before .before .before .before .before .before .before .before .before .before .before .before .before .before .before .before .put-hex .ensures ⨾
+returns c =
+    c .before .before .before .before .before .before .before .before .before .before .before .before .before .before .before .before .before .before .before .before .before .before .put-decimals .ensures ⨾
+    (rw (c .before .before .before .before .before .before .before .before .before .before .before .before .before .before .before .before .before .before .word-of .ensures) at (c .before .before .before .before .before .before .before .before .before .before .before .before .before .before .before .before .before .put-hex .ensures)) ⨾
     c .before .before .before .before .before .before .before .before .before .before .before .before .put .ensures ⨾
-    c .before .before .before .before .before .before .before .put-hex2 .ensures ⨾
-    c .before .before .put2 .ensures)
+    (rw (c .before .before .before .before .before .before .before .before .word-of2 .ensures) at (c .before .before .before .before .before .before .before .put-hex2 .ensures)) ⨾
+    c .before .before .put2 .ensures
 
 pub put-row-spec : {M : Type 1} → statement M
 put-row-spec = tie.close

@@ -10,4 +10,4 @@ unfolding sampleText samplePosition
 put-sample-spec = tie.close
     (tie.spec (λ c. search needs) (λ c. search needs) (λ c. search needs) (λ c κs. search needs) (λ c. search needs)
     (λ c. search needs) (λ c κs. search needs) (λ c. search needs)
-    (λ c. simp (← c .before .before .before .before .sample-position .ensures) (c .before .before .put-row .ensures)))
+    (λ c. rw (c .before .before .before .before .sample-position .ensures) at (c .before .before .put-row .ensures)))
