@@ -8,7 +8,8 @@ use lib.ListN.{length}
 use Rattle.code_bytes.specs.Bytes.{byteAt, gatesByte, blockLength}
 use Rattle.arpeggio_panel.specs.Arpeggio.{arpeggioText}
 use Rattle.page_panels.specs.Panels.{panelsText}
-use Rattle.page_head.specs.Head.{styleText, headText, comparedHead, footText}
+use Rattle.page_head.specs.Head.{styleText, headText, footText}
+use Rattle.compared_head.specs.Compared.{comparedHead}
 
 -- ---- the whole
 -- What follows the head. Without an older program the older block is the block, and nothing differs.

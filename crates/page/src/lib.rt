@@ -6,7 +6,7 @@ ghost use Rattle.code_bytes.specs.Bytes.{blockLength};
 ghost use Rattle.page.specs.Page.{bodyText, pageOf, comparisonOf, pageText, comparisonText};
 use arpeggio_panel::put_arpeggio;
 use block::BLOCK;
-use page_head::put_compared_head;
+use compared_head::put_compared_head;
 use page_head::put_foot;
 use page_head::put_head;
 use page_head::put_style;

@@ -1,5 +1,5 @@
--- THE HEAD AND THE FOOT OF A PAGE: docs/SPECIFICATION.md, "The page". A4, landscape, in hundredths of a millimetre. `file` is the name of the block's file, and empty where there is none; `oldFile` is that of
--- the older block's. Definitions only.
+-- THE HEAD OF A SHEET AND THE FOOT OF A PAGE: docs/SPECIFICATION.md, "The page". A4, landscape, in hundredths of a millimetre. `file` is the name of the block's file, and empty where there is none.
+-- Definitions only.
 use mathlib.Core.List.{List, _++_}
 use Prim.Native.Nat.{ℕ}
 use Rattle.text.specs.Text.{ascii}
@@ -16,25 +16,6 @@ unfoldable pub headText : List ℕ → List ℕ → List ℕ
 headText file block =
     ascii "<title>" ++ nameText file block ++ ascii "</title>\n<text class='h' x='1150' y='1450'>DeepMind 12 program</text><text class='n' x='5500' y='1450'>" ++ nameText file block ++
     ascii "</text><path class='f' d='M1150 1750H28550'/>\n"
-
--- ---- the head of a comparison
--- The document's title, and the styles that only a comparison has: w what a byte was, s the note beside it, and the file beside a name, which is not bold.
-unfoldable pub comparedTitle : List ℕ → List ℕ → List ℕ → List ℕ → List ℕ
-comparedTitle oldFile older file block =
-    ascii "<title>Comparison of " ++ nameText oldFile older ++ ascii " and " ++ nameText file block ++
-    ascii "</title>\n<style>.w{font-size:200px;fill:#555}.s{font-size:240px}.s .b{font-size:280px}.n .h{font-weight:normal}</style>\n"
-
--- One of the two programs: its name, and which file it is from.
-unfoldable pub sideText : List ℕ → List ℕ → List ℕ
-sideText file block = nameText file block ++ ascii "<tspan class='h' dx='400'>" ++ fileText file block ++ ascii "</tspan></text>"
-
--- What the page is, the old program above the new one, a rule below them, and what is grey and small on it.
-unfoldable pub comparedHead : List ℕ → List ℕ → List ℕ → List ℕ → List ℕ
-comparedHead oldFile older file block =
-    comparedTitle oldFile older file block ++
-    ascii "<text class='h' x='1150' y='950'>DeepMind 12 comparison</text><text class='h' x='5700' y='950'>old</text><text class='n' x='6500' y='950'>" ++ sideText oldFile older ++
-    ascii "<text class='h' x='5700' y='1560'>new</text><text class='n' x='6500' y='1560'>" ++ sideText file block ++
-    ascii "<path class='f' d='M1150 1750H28550'/><path class='u' d='M1150 1960H1750'/><text x='1850' y='2030'>grey: the old program, where its curve or gate differs. <tspan class='w'>was</tspan> in small: its byte, where that differs. Bytes that are not on this page may differ too: juvrada compare lists them.</text>\n"
 
 -- ---- foot
 -- How to read the page, which file it is of, and where the parameters are that are not on it.

@@ -1,2 +1,2 @@
--- The head and the foot of a page.
+-- The head of a sheet and the foot of a page.
 pub mod Head

@@ -1,10 +1,10 @@
 -- `put_compared_title` writes `comparedTitle`: its parts, one after the other. Assumes nothing.
 use Rattle.text.proofs.Writing.{_⨾_}
 use mathlib.Core.Path.{refl}
-use Rattle.page_head.specs.Head.{comparedTitle}
+use Rattle.compared_head.specs.Compared.{comparedTitle}
 use borrow.Author.Needs.{needs}
-use Rattle.page_head.proofs.put_compared_title.Statement.{statement}
-use Rattle.page_head.proofs.put_compared_title.Tie as tie
+use Rattle.compared_head.proofs.put_compared_title.Statement.{statement}
+use Rattle.compared_head.proofs.put_compared_title.Tie as tie
 
 returns : tie.Need-returns
 unfolding comparedTitle

@@ -1,0 +1,2 @@
+-- The head of a comparison.
+pub mod Compared
