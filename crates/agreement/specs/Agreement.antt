@@ -5,7 +5,9 @@ use Prim.Native.Nat.{ℕ}
 use lib.Ieee.{Float}
 use Rattle.block.specs.Refusals.{chosenOf, heightAnswer}
 use Rattle.block_strip.specs.Strips.{stripAnswer, stripAfter}
-use Rattle.block_generator.specs.Answers.{settingsAnswer, marksAnswer, restAnswer, scaleAnswer, anchoredAnswer}
+use Rattle.block_settings.specs.Answers.{settingsAnswer}
+use Rattle.block_marks.specs.Answers.{marksAnswer}
+use Rattle.block_generator.specs.Answers.{restAnswer, scaleAnswer, anchoredAnswer}
 use Rattle.block_captions.specs.Answers.{captionsAnswer, captionsAfter}
 
 -- Two blocks give a code the same answers throughout.

@@ -1,10 +1,8 @@
-// A block of a program's bytes and a generator's code, read as a generator or refused, and the height of what is read.
+// A block of a program's bytes and a generator's code, settled as a known code or refused, and the height of what is settled.
 ghost use mathlib.Core.Path.{_≡_};
-ghost use Rattle.block.specs.Refusals.{settledOf, chosenOf};
+ghost use Rattle.block.specs.Refusals.{settledOf};
 ghost use Rattle.block.specs.Promises.{HeightAnswered};
-use builders::of_shape;
 use code_heights::height_at;
-use code_shapes::shape_at;
 use codes::Code;
 use codes::CodeRead;
 use codes::code_read;
@@ -18,6 +16,7 @@ pub enum Settled {
     Refused(Refusal),
 }
 
+// The generator of what is settled: `choose` of crate block_choice.
 pub enum Chosen {
     Generator(Generator),
     Refused(Refusal),
@@ -42,17 +41,6 @@ pub fn settle(block: &[u8], code: u32) -> Settled
     match read {
         CodeRead::Known(c) => Settled::Known(c),
         CodeRead::Above => Settled::Refused(Refusal::Code),
-    }
-}
-
-// The generator of what is settled.
-pub fn choose(block: &[u8], code: u32) -> Chosen
-    ensures { λ r. ⌜ r ≡ chosenOf (now (block .entry)) code ⌝ }
-{
-    let settled = settle(block, code);
-    match settled {
-        Settled::Known(c) => Chosen::Generator(of_shape(shape_at(block, c))),
-        Settled::Refused(r) => Chosen::Refused(r),
     }
 }
 

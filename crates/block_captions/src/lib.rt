@@ -1,7 +1,7 @@
 // The captions of the samples of a block's strip.
 ghost use Rattle.block_captions.specs.Promises.{CaptionsAnswered};
 use block::Chosen;
-use block::choose;
+use block_choice::choose;
 use captions::Captioned;
 use refusals::Answer;
 use refusals::Refusal;

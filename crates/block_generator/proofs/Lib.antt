@@ -1,2 +1,2 @@
--- What is refused, and what is promised of an answer follows from its equation.
+-- What is refused.
 pub mod Refused

@@ -1,3 +1,2 @@
--- The answers of a block and a code, and what is promised of them.
+-- The rest level, the scale and the anchor of a block and a code.
 pub mod Answers
-pub mod Promises

@@ -1,25 +1,10 @@
-// What a block and a code say of a generator: its settings, its marks, its rest level, its scale, and whether it is anchored.
-ghost use Rattle.block_generator.specs.Answers.{settingsAnswer, settingsRefusal, marksAnswer, marksRefusal, restAnswer, restRefusal, scaleAnswer, scaleRefusal, anchoredAnswer, anchoredRefusal};
-ghost use Rattle.block_generator.specs.Promises.{Answered};
+// What a block and a code say of a generator: its rest level, its scale, and whether it is anchored.
+ghost use Rattle.block_choice.specs.Promises.{Answered};
+ghost use Rattle.block_generator.specs.Answers.{restAnswer, restRefusal, scaleAnswer, scaleRefusal, anchoredAnswer, anchoredRefusal};
 use block::Chosen;
-use block::choose;
+use block_choice::choose;
 use generator::Scale;
-use generator::Shape;
-use marks::Marks;
-use marks::no_marks;
-use refusals::Answer;
 use refusals::Refusal;
-
-pub enum SettingsAnswer {
-    Settings(Shape),
-    Refused(Refusal),
-}
-
-// Marks are an array, so that the answer stands beside them.
-pub struct MarksAnswer {
-    pub answer: Answer,
-    pub marks: Marks,
-}
 
 pub enum RestAnswer {
     Rest(f32),
@@ -34,35 +19,6 @@ pub enum ScaleAnswer {
 pub enum AnchoredAnswer {
     Anchored(bool),
     Refused(Refusal),
-}
-
-pub fn settings(block: &[u8], code: u32) -> SettingsAnswer
-    ensures { λ r. ⌜ Answered settingsAnswer settingsRefusal (now (block .entry)) code r ⌝ }
-{
-    let chosen = choose(block, code);
-    match chosen {
-        Chosen::Generator(g) => {
-            let shape = g.shape;
-            SettingsAnswer::Settings(shape)
-        }
-        Chosen::Refused(r) => SettingsAnswer::Refused(r),
-    }
-}
-
-pub fn marks(block: &[u8], code: u32) -> MarksAnswer
-    ensures { λ r. ⌜ Answered marksAnswer marksRefusal (now (block .entry)) code r ⌝ }
-{
-    let chosen = choose(block, code);
-    match chosen {
-        Chosen::Generator(g) => MarksAnswer {
-            answer: Answer::Accepted,
-            marks: g.marks(),
-        },
-        Chosen::Refused(r) => MarksAnswer {
-            answer: Answer::Refused(r),
-            marks: no_marks(),
-        },
-    }
 }
 
 pub fn rest(block: &[u8], code: u32) -> RestAnswer

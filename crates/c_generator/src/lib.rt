@@ -1,7 +1,7 @@
 // The rest level, the scale and the anchor for C callers: what crate block_generator answers, as numbers.
 ghost use mathlib.Core.Path.{_≡_};
+ghost use Rattle.block_choice.specs.Promises.{Answered};
 ghost use Rattle.block_generator.specs.Answers.{restAnswer, restRefusal, scaleAnswer, scaleRefusal, anchoredAnswer, anchoredRefusal};
-ghost use Rattle.block_generator.specs.Promises.{Answered};
 ghost use Rattle.c_results.specs.Promises.{Returned};
 ghost use Rattle.c_generator.specs.Results.{restResult, scaleResult, anchoredResult};
 use block_generator::AnchoredAnswer;

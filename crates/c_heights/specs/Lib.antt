@@ -1,2 +1,2 @@
--- Heights and strips as numbers.
+-- Heights as numbers.
 pub mod Results

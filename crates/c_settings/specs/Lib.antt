@@ -1,3 +1,2 @@
--- Settings as numbers, and what a lent array holds of them.
-pub mod Numbers
+-- What a lent array holds of the settings.
 pub mod Results

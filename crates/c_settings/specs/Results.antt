@@ -4,12 +4,12 @@ use Prim.Native.Nat.{ℕ, min}
 use lib.ListN.{getD}
 use lib.Ieee.{Float, nan}
 use Rattle.lists.specs.Written.{written}
-use Rattle.block_generator.specs.declared.SettingsAnswer.{SettingsAnswer}
-use Rattle.block_generator.specs.declared.SettingsAnswer.the-variants.{Settings, Refused as NoSettings}
-use Rattle.block_generator.specs.Answers.{settingsRefusal}
+use Rattle.block_settings.specs.declared.SettingsAnswer.{SettingsAnswer}
+use Rattle.block_settings.specs.declared.SettingsAnswer.the-variants.{Settings, Refused as NoSettings}
+use Rattle.block_settings.specs.Answers.{settingsRefusal}
+use Rattle.settings_numbers.specs.declared.Numbers.{Numbers}
+use Rattle.settings_numbers.specs.Numbers.{settingsNumbers}
 use Rattle.c_results.specs.declared.CountResult.{CountResult}
-use Rattle.c_settings.specs.declared.Numbers.{Numbers}
-use Rattle.c_settings.specs.Numbers.{settingsNumbers}
 
 -- Setting i of a generator.
 abbrev pub settingAt : Numbers → ℕ → Float

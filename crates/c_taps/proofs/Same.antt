@@ -5,10 +5,10 @@ use Prim.Native.Nat.{ℕ}
 use lib.Ieee.{Float}
 use Rattle.curve.specs.declared.Height.{Height}
 use Rattle.taps.specs.declared.Taps.{Taps}
-use Rattle.block_generator.specs.declared.MarksAnswer.{MarksAnswer}
+use Rattle.block_marks.specs.declared.MarksAnswer.{MarksAnswer}
 use Rattle.taps.specs.Promises.{TapsAnswered}
 use Rattle.c_results.specs.declared.CountResult.{CountResult}
-use Rattle.c_marks.specs.Results.{MarksNumbers}
+use Rattle.mark_numbers.specs.Results.{MarksNumbers}
 
 pub same-marks : {found known : MarksAnswer} {a b : List Float} {c d : List ℕ} {r : CountResult} → found ≡ known → MarksNumbers found a b c d r → MarksNumbers known a b c d r
 same-marks {a = a} {b = b} {c = c} {d = d} {r = r} e h = subst (λ (x : MarksAnswer). MarksNumbers x a b c d r) e h

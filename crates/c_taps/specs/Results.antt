@@ -8,7 +8,7 @@ use Rattle.taps.specs.declared.Taps.{Taps}
 use Rattle.taps.specs.Formula.{usedOf}
 use Rattle.tap_marks.specs.Marks.{tapMarks}
 use Rattle.refusals.specs.declared.Answer.the-variants.{Accepted}
-use Rattle.block_generator.specs.declared.MarksAnswer.{MarksAnswer}
+use Rattle.block_marks.specs.declared.MarksAnswer.{MarksAnswer}
 
 -- Taps from two arrays of four.
 unfoldable pub tapsOf : List Float → List Float → ℕ → Taps

@@ -20,7 +20,8 @@ use Rattle.codes.specs.declared.Code.the-variants.{Envelope, Lfo, LfoUnipolar, 
 use Rattle.codes.specs.declared.OscillatorId.the-variants.{One, Two}
 use Rattle.code_bytes.specs.Bytes.{shapePlace, keySyncPlace, slewPlace, fadeByte, lfoFirst, envelopeFirst}
 use Rattle.generator.specs.declared.Shape.the-variants.{Envelope as AnEnvelope}
-use Rattle.code_shapes.specs.Shapes.{envelopeAt, lfoAt, oscillatorAt, shapeOf}
+use Rattle.code_settings.specs.Settings.{envelopeAt, lfoAt, oscillatorAt}
+use Rattle.code_shapes.specs.Shapes.{shapeOf}
 use Rattle.code_heights.specs.Promises.{slewedCode, lfoBound, boundOf, CodePromised}
 
 -- ---- every byte gives settings in their ranges

@@ -5,7 +5,8 @@ use Rattle.codes.specs.declared.Code.{Code}
 use Rattle.codes.specs.declared.Code.the-variants.{Envelope, Lfo, LfoUnipolar, Fade, LowPass, HighPass, Oscillator, Noise}
 use Rattle.codes.specs.declared.OscillatorId.the-variants.{One, Two}
 use Rattle.code_bytes.specs.Bytes.{Agree, bytesOf}
-use Rattle.code_shapes.specs.Shapes.{envelopeAt, lfoAt, oscillatorAt, shapeOf}
+use Rattle.code_settings.specs.Settings.{envelopeAt, lfoAt, oscillatorAt}
+use Rattle.code_shapes.specs.Shapes.{shapeOf}
 
 pub agreement : (c : Code) (a b : ℕ → ℕ) → Agree (bytesOf c) a b → shapeOf c a ≡ shapeOf c b
 unfolding Agree bytesOf shapeOf envelopeAt lfoAt oscillatorAt

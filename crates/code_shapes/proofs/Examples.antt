@@ -29,7 +29,8 @@ use Rattle.codes.specs.declared.CodeRead.{CodeRead}
 use Rattle.codes.specs.declared.CodeRead.the-variants.{Known, Above}
 use Rattle.codes.specs.Codes.{codes, codeIn, codeOf}
 use Rattle.code_bytes.specs.Bytes.{bytesOf, blockLength}
-use Rattle.code_shapes.specs.Shapes.{envelopeAt, lfoAt, oscillatorAt, shapeOf}
+use Rattle.code_settings.specs.Settings.{envelopeAt, lfoAt, oscillatorAt}
+use Rattle.code_shapes.specs.Shapes.{shapeOf}
 
 -- ---- settings
 -- an enum's number, by the order of its declaration; a switch is 0 or 1

@@ -6,16 +6,19 @@ ghost use Rattle.refusals.specs.Refusals.{answerRefusal};
 ghost use Rattle.block.specs.Promises.{HeightAnswered};
 ghost use Rattle.block_strip.specs.Promises.{StripAnswered};
 ghost use Rattle.block_captions.specs.Promises.{CaptionsAnswered};
-ghost use Rattle.block_generator.specs.Answers.{settingsAnswer, settingsRefusal, marksAnswer, marksRefusal, restAnswer, restRefusal, scaleAnswer, scaleRefusal, anchoredAnswer, anchoredRefusal};
-ghost use Rattle.block_generator.specs.Promises.{Answered};
+ghost use Rattle.block_choice.specs.Promises.{Answered};
+ghost use Rattle.block_settings.specs.Answers.{settingsAnswer, settingsRefusal};
+ghost use Rattle.block_marks.specs.Answers.{marksAnswer, marksRefusal};
+ghost use Rattle.block_generator.specs.Answers.{restAnswer, restRefusal, scaleAnswer, scaleRefusal, anchoredAnswer, anchoredRefusal};
 ghost use Rattle.block_gates.specs.Answers.{gatesAnswer, barsAnswer};
 ghost use Rattle.block_gates.specs.Promises.{GatesAnswered};
 ghost use Rattle.c_results.specs.Promises.{Returned};
-ghost use Rattle.c_heights.specs.Results.{heightResult, stripResult};
+ghost use Rattle.c_heights.specs.Results.{heightResult};
+ghost use Rattle.c_strip.specs.Results.{stripResult};
 ghost use Rattle.c_generator.specs.Results.{restResult, scaleResult, anchoredResult};
 ghost use Rattle.c_settings.specs.Results.{settingsResult, settingsAfter};
-ghost use Rattle.c_marks.specs.Results.{MarksNumbers};
-ghost use Rattle.c_gates.specs.Results.{GatesNumbers};
+ghost use Rattle.mark_numbers.specs.Results.{MarksNumbers};
+ghost use Rattle.gate_numbers.specs.Results.{GatesNumbers};
 ghost use Rattle.c_taps.specs.Results.{tapsOf, tapsAnswer};
 use block::HeightAnswer;
 use c_results::AnchoredResult;
@@ -24,9 +27,9 @@ use c_results::HeightResult;
 use c_results::RestResult;
 use c_results::ScaleResult;
 use c_results::StripResult;
-use c_settings::MAX_SETTINGS;
 use gates::GATES_DRAWN;
 use marks::MAX_MARKS;
+use settings_numbers::MAX_SETTINGS;
 use taps::MAX_TAPS;
 
 #[no_mangle]
@@ -40,7 +43,7 @@ pub extern "C" fn juvrada_height(block: &[u8], code: u32, t: f32) -> HeightResul
 pub extern "C" fn juvrada_strip(block: &[u8], code: u32, out: &mut [f32]) -> StripResult
     ensures { λ r. ⌜ Returned (λ a. r ≡ stripResult a) (StripAnswered (now (block .entry)) code (now (out .entry)) (now (out .exit))) ⌝ }
 {
-    c_heights::strip(block, code, out)
+    c_strip::strip(block, code, out)
 }
 
 #[no_mangle]
@@ -91,7 +94,7 @@ pub extern "C" fn juvrada_settings(
 pub extern "C" fn juvrada_captions(block: &[u8], code: u32, out: &mut [u8]) -> u32
     ensures { λ r. ⌜ Returned (λ a. r ≡ answerRefusal a) (CaptionsAnswered (now (block .entry)) code (now (out .entry)) (now (out .exit))) ⌝ }
 {
-    c_heights::captions(block, code, out)
+    c_captions::captions(block, code, out)
 }
 
 #[no_mangle]

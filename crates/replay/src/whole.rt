@@ -5,7 +5,7 @@ use block::HeightAnswer;
 use block_generator::AnchoredAnswer;
 use block_generator::RestAnswer;
 use block_generator::ScaleAnswer;
-use block_generator::SettingsAnswer;
+use block_settings::SettingsAnswer;
 use float_bits::float_of;
 use float_bits::low_word;
 use gates::Gates;
@@ -18,7 +18,7 @@ use replay_answers::of_marks;
 use replay_blocks::drawn_block;
 
 fn setting(block: &[u8], code: u32, i: u32) -> Answer {
-    let given = block_generator::settings(block, code);
+    let given = block_settings::settings(block, code);
     match given {
         SettingsAnswer::Settings(shape) => replay_answers::setting(shape, i),
         SettingsAnswer::Refused(_) => Answer::Nothing,
@@ -59,7 +59,7 @@ fn anchored(block: &[u8], code: u32) -> Answer {
 
 // What is refused has no marks, and no gates.
 fn marks_of(block: &[u8], code: u32) -> Marks {
-    let given = block_generator::marks(block, code);
+    let given = block_marks::marks(block, code);
     given.marks
 }
 

@@ -2,7 +2,8 @@
 use borrow.Author.Needs.{needs}
 use mathlib.Core.Path.{sym}
 use Rattle.block_generator.specs.Answers.{anchoredAnswer}
-use Rattle.block_generator.proofs.Refused.{answered, anchored-refused}
+use Rattle.block_choice.proofs.Answered.{answered}
+use Rattle.block_generator.proofs.Refused.{anchored-refused}
 use Rattle.block_generator.proofs.anchored.Statement.{statement}
 use Rattle.block_generator.proofs.anchored.Tie as tie
 

@@ -2,7 +2,8 @@
 use borrow.Author.Needs.{needs}
 use mathlib.Core.Path.{sym}
 use Rattle.block_generator.specs.Answers.{restAnswer}
-use Rattle.block_generator.proofs.Refused.{answered, rest-refused}
+use Rattle.block_choice.proofs.Answered.{answered}
+use Rattle.block_generator.proofs.Refused.{rest-refused}
 use Rattle.block_generator.proofs.rest.Statement.{statement}
 use Rattle.block_generator.proofs.rest.Tie as tie
 

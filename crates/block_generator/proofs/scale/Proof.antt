@@ -2,7 +2,8 @@
 use borrow.Author.Needs.{needs}
 use mathlib.Core.Path.{sym}
 use Rattle.block_generator.specs.Answers.{scaleAnswer}
-use Rattle.block_generator.proofs.Refused.{answered, scale-refused}
+use Rattle.block_choice.proofs.Answered.{answered}
+use Rattle.block_generator.proofs.Refused.{scale-refused}
 use Rattle.block_generator.proofs.scale.Statement.{statement}
 use Rattle.block_generator.proofs.scale.Tie as tie
 

@@ -1,0 +1,2 @@
+-- What is promised of an answer follows from its equation.
+pub mod Answered

@@ -1,0 +1,2 @@
+-- What is refused.
+pub mod Refused

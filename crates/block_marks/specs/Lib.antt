@@ -1,0 +1,2 @@
+-- The marks of a block and a code.
+pub mod Answers

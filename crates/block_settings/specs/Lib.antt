@@ -1,0 +1,2 @@
+-- The settings of a block and a code.
+pub mod Answers

@@ -1,0 +1,2 @@
+-- Strips as numbers.
+pub mod Results

@@ -1,0 +1,2 @@
+-- The settings of a code.
+pub mod Settings
