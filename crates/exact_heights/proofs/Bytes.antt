@@ -13,8 +13,9 @@ use Rattle.trials.specs.Noted.{notedOf, notedAll}
 use Rattle.trials.proofs.Rows.{noted-all}
 use Rattle.number_lines.specs.declared.Line.{Line}
 use Rattle.number_lines.specs.Lines.{noLine, readOne, lineEnded, linesFrom}
+use Rattle.exact_trials.specs.LineTrials.{lineTrial}
 use Rattle.exact_heights.specs.declared.Reading.{Reading}
-use Rattle.exact_heights.specs.Exact.{lineTrial, trialsOf, exactRow, stepped}
+use Rattle.exact_heights.specs.Exact.{trialsOf, exactRow, stepped}
 
 -- What the row comes to, with the bytes that are left.
 unfoldable pub rowAfter : Reading → List ℕ → Row

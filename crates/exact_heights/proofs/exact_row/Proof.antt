@@ -4,7 +4,8 @@ use Prim.Native.Nat.{_-_, _≤_}
 use borrow.Author.Needs.{needs}
 use lib.ListN.{length, drop}
 use Rattle.trials.specs.Noted.{notedOf}
-use Rattle.exact_heights.specs.Exact.{lineTrial, exactRow}
+use Rattle.exact_trials.specs.LineTrials.{lineTrial}
+use Rattle.exact_heights.specs.Exact.{exactRow}
 use Rattle.exact_heights.proofs.Bytes.{rowAfter, none-read, one-read, all-read}
 use Rattle.exact_heights.proofs.exact_row.Statement.{statement}
 use Rattle.exact_heights.proofs.exact_row.Tie as tie

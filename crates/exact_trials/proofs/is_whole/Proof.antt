@@ -1,8 +1,8 @@
 -- `is_whole` is `isWhole`. Assumes nothing.
 use borrow.Author.Tests.{ne-eqb}
-use Rattle.exact_heights.specs.Exact.{isWhole}
-use Rattle.exact_heights.proofs.is_whole.Statement.{statement}
-use Rattle.exact_heights.proofs.is_whole.Tie as tie
+use Rattle.exact_trials.specs.LineTrials.{isWhole}
+use Rattle.exact_trials.proofs.is_whole.Statement.{statement}
+use Rattle.exact_trials.proofs.is_whole.Tie as tie
 
 pub is-whole-spec : {M : Type 1} → statement M
 unfolding isWhole

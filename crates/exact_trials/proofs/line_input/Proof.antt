@@ -1,8 +1,8 @@
 -- `line_input` is `lineInput`. Assumes nothing.
 use borrow.Author.Needs.{needs}
-use Rattle.exact_heights.specs.Exact.{lineInput}
-use Rattle.exact_heights.proofs.line_input.Statement.{statement}
-use Rattle.exact_heights.proofs.line_input.Tie as tie
+use Rattle.exact_trials.specs.LineTrials.{lineInput}
+use Rattle.exact_trials.proofs.line_input.Statement.{statement}
+use Rattle.exact_trials.proofs.line_input.Tie as tie
 
 pub line-input-spec : {M : Type 1} → statement M
 unfolding lineInput

@@ -1,9 +1,9 @@
 -- `line_trial` is `lineTrial`. Assumes nothing.
 use borrow.Author.Needs.{needs}
 use mathlib.Core.Path.{sym, _∙_}
-use Rattle.exact_heights.specs.Exact.{lineTrial}
-use Rattle.exact_heights.proofs.line_trial.Statement.{statement}
-use Rattle.exact_heights.proofs.line_trial.Tie as tie
+use Rattle.exact_trials.specs.LineTrials.{lineTrial}
+use Rattle.exact_trials.proofs.line_trial.Statement.{statement}
+use Rattle.exact_trials.proofs.line_trial.Tie as tie
 
 pub line-trial-spec : {M : Type 1} → statement M
 unfolding lineTrial
