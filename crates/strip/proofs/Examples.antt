@@ -1,19 +1,21 @@
 -- STRIPS HELD AGAINST NUMBERS FROM OUTSIDE: positions rounded to binary32, lengths and heights of docs/SPECIFICATION.md. Assumes nothing.
-use mathlib.Core.Path.{_≡_, refl}
+use mathlib.Core.Path.{_≡_, refl, ap, _∙_}
 use mathlib.Core.Bool.{Bool, true, not, _&&_}
 use mathlib.Core.List.{List, [], _∷_}
-use Prim.Native.Nat.{ℕ}
-use lib.Dec.{T, eqb}
-use lib.Ieee.{binary32, ofBits, toBits, ofInt, isNan, lt, le, eq, neg, add, sub, mul, div}
+use Prim.Native.Nat.{ℕ, suc, _+_}
+use native.Mathlib.Omega.{arith}
+use lib.Dec.{T, lit≤, eqb}
+use lib.Ieee.{Float, binary32, ofBits, toBits, ofInt, isNan, lt, le, eq, neg, add, sub, mul, div}
 use Rattle.exact.specs.Value.{value}
-use Rattle.exact.specs.Binary32.{zero₃₂, half₃₂, one₃₂}
+use Rattle.exact.specs.Binary32.{_⊗_, zero₃₂, half₃₂, one₃₂}
 use Rattle.math.specs.Formulas.{clampOf}
 use Rattle.floor.specs.Formula.{floorOf, fractOf}
 use Rattle.lists.proofs.Rows.{allPass}
 use Rattle.curve.specs.Curve.{positionOf, drawnOf}
 use Rattle.settings.specs.Settings.{byteOf, lfoShapeOf, turnsOf, lfoOf}
 use Rattle.lfo_shapes.specs.Formula.{wrapOf, triangleOf, shapeAtOf}
-use Rattle.walk.specs.Formula.{stepOf, placeOf, fullFrom, fullSteps, walkedOf}
+use Rattle.walk.specs.Formula.{stepOf, placeOf, fullSteps, walkedOf}
+use Rattle.walk.proofs.Steps.{steps-to-place}
 use Rattle.lfo.specs.Formula.{lfoHeightOf}
 use Rattle.generator.specs.declared.Shape.{Shape}
 use Rattle.generator.specs.declared.Shape.the-variants.{Lfo as AnLfo}
@@ -46,6 +48,12 @@ unfolding triangle stripOf written heightOf lfoHeightOf drawnOf shapeAtOf triang
 triangle-strip = refl
 
 -- The walk to phase 0 has 96 steps, that to phase 1 has 192.
+two-walks : (x y : Float) → x ≡ placeOf 96 → y ≡ placeOf 192 → 0 + suc (fullSteps x) + suc (fullSteps y) ≡ 288
+two-walks x y a b =
+    let zero : suc (fullSteps x) ≡ 96 = ap (λ (p : Float). suc (fullSteps p)) a ∙ steps-to-place 96 (lit≤ tt) (lit≤ tt) in
+    let one : suc (fullSteps y) ≡ 192 = ap (λ (p : Float). suc (fullSteps p)) b ∙ steps-to-place 192 (lit≤ tt) (lit≤ tt) in
+    omega (arith, zero, one)
+
 slewed-steps : stepsOf (triangle 1) 2 ≡ 288
-unfolding triangle stepsOf stepSum heightOf lfoHeightOf walkedOf fullSteps fullFrom placeOf stepOf drawnOf positionOf samplePosition sampleOf clampOf lfoOf lfoShapeOf byteOf toBits ofBits ofInt isNan lt le eq neg add sub mul div
-slewed-steps = refl
+unfolding triangle stepsOf stepSum heightOf lfoHeightOf walkedOf placeOf stepOf drawnOf positionOf samplePosition sampleOf clampOf lfoOf lfoShapeOf byteOf toBits ofBits ofInt isNan lt le eq neg add sub mul div
+slewed-steps = two-walks (positionOf (samplePosition 2 0) ⊗ one₃₂) (positionOf (samplePosition 2 1) ⊗ one₃₂) refl refl

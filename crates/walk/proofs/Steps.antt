@@ -13,11 +13,11 @@ use Rattle.exact.specs.Fraction.{ratio, _≤ℚ_}
 use Rattle.exact.specs.Value.{value}
 use Rattle.exact.specs.Binary32.{bits, zero₃₂}
 use Rattle.exact.proofs.Defined.{value-defined}
-use Rattle.exact.proofs.Order.{cross, ≤ℚ-parts, ≤ℚ-trans, le-value, nlt-at-most, compared}
+use Rattle.exact.proofs.Order.{cross, ≤ℚ-parts, ≤ℚ-refl, ≤ℚ-trans, le-value, nlt-at-most, compared}
 use Rattle.lfo_shapes.proofs.DrawnPhase.{Spanned}
 use Rattle.walk.specs.Formula.{placeOf, fullFrom, fullSteps}
 use Rattle.walk.specs.Steps.{Steps}
-use Rattle.walk.proofs.Places.{place-finite, place-end, place-below-zero}
+use Rattle.walk.proofs.Places.{place-fits, place-finite, place-end, increasing, at-most-later, place-below-zero, place-above-zero}
 
 -- ---- the search from count k + 1 on finds the first that reaches the phase, where some count m does
 record Found (phase : Float) (k m r : ℕ) : Type 0 where
@@ -64,6 +64,10 @@ nle-lt x y X Y h = go (lt y x) (λ t. nlt-at-most y x Y X t .le)
     go true k = tt
     go false k = absurd (subst T h (le-value x y X Y .1 (k tt)))
 
+both : (b : Bool) → T b → T (not b) → ⊥
+both true t f = f
+both false t f = t
+
 -- ---- a position that reaches a phase from 0 to 6 is not below 0, and the last one reaches it
 unreached : (phase : Float) (k : ℕ) → Spanned phase → k < 96 → le phase (placeOf k) ≡ false
 unfolding value ofBits
@@ -71,10 +75,6 @@ unreached phase k p l = go (le phase (placeOf k)) (le-value phase (placeOf k) (p
   where
     K : T (finite (placeOf k))
     K = place-finite k (omega arith)
-
-    both : (b : Bool) → T b → T (not b) → ⊥
-    both true t f = f
-    both false t f = t
 
     go : (b : Bool) → (T b → value phase ≤ℚ value (placeOf k)) → b ≡ false
     go false h = refl
@@ -120,3 +120,36 @@ search-steps phase n k s e p =
 pub steps-at : (phase : Float) → Spanned phase → Steps phase (suc (fullSteps phase))
 unfolding fullSteps
 steps-at phase p = search-steps phase _ _ (lit< tt) (lit≤ tt) p
+
+-- ---- THE STEPS TO A PLACE from 0 on are its own count
+place-spanned : (j : ℕ) → 96 ≤ j → j ≤ 672 → Spanned (placeOf j)
+unfolding value ofBits
+place-spanned j h l =
+    record {
+      holds = place-fits j;
+      number = place-finite j l;
+      from = place-above-zero j h l;
+      to = subst (λ (x : Float). value (placeOf j) ≤ℚ value x) place-end (at-most-later j 672 l (lit≤ tt));
+    }
+
+pub steps-to-place : (j : ℕ) → 96 ≤ j → j ≤ 672 → suc (fullSteps (placeOf j)) ≡ j
+steps-to-place j h l = go (leb j k) (leb→le j k) (nleb→lt j k)
+  where
+    k : ℕ
+    k = suc (fullSteps (placeOf j))
+
+    s : Steps (placeOf j) k
+    s = steps-at (placeOf j) (place-spanned j h l)
+
+    J : T (finite (placeOf j))
+    J = place-finite j l
+
+    go : (b : Bool) → (T b → j ≤ k) → (T (not b) → k < j) → k ≡ j
+    go false a c = absurd (both (lt (placeOf k) (placeOf j)) (increasing k j (c tt) l) (s .reached))
+    go true a c =
+        elim (eq-or-lt-of-le (a tt)) [
+          | inl e ↦
+              sym e
+          | inr m ↦
+              absurd (both (lt (placeOf j) (placeOf j)) (s .first j (omega arith) m) (le-nlt (placeOf j) (placeOf j) J J (le-value (placeOf j) (placeOf j) J J .1 (≤ℚ-refl (value (placeOf j))))))
+        ]

@@ -1,6 +1,6 @@
 -- `name_end` is `nameEnd`. The loop's invariant: from byte i on the name ends where it ends. Assumes nothing.
-use mathlib.Core.Path.{_≡_, refl}
-use Prim.Native.Nat.{suc, _+_, _-_, _≤_}
+use mathlib.Core.Path.{_≡_, refl, sym, ap, _∙_}
+use Prim.Native.Nat.{ℕ, suc, _+_, _-_, _≤_}
 use native.Mathlib.Numerals.{add-one}
 use native.Mathlib.Omega.{arith}
 use borrow.Author.Needs.{needs}
@@ -20,18 +20,27 @@ unfolding nameEnd
 loop-holds c = (search needs, search needs, refl)
 
 returns : tie.Need-returns Inv-loop μ-loop
-returns c = (cc (end-here _ (240 - c .before .before .before .loop .i) _ (c .if1 .taken)), search needs, search needs)
+returns c =
+    let l = c .before .before .before .loop in
+    (sym (end-here _ (240 - l .i) _ (c .if1 .taken)) ∙ l .inv .2, search needs, search needs)
 
 loop-again : tie.Need-loop-again Inv-loop μ-loop
 loop-again c =
-    let i = c .before .before .before .loop .i in
-    let e : 240 - i ≡ suc (240 - (i + 1)) = omega arith in
-    (search needs, search needs, cc (end-next (c .before .before .before .before .args .block .now) (240 - (i + 1)) i (c .if1 .left), add-one i))
+    let l = c .before .before .before .loop in
+    let i = l .i in
+    let block = c .before .before .before .before .args .block .now in
+    let e : 240 - i ≡ suc (240 - (i + 1)) = omega arith in (
+      search needs,
+      search needs,
+      ap (endFrom block (240 - (i + 1))) (add-one i) ∙ sym (end-next block (240 - (i + 1)) i (c .if1 .left)) ∙ ap (λ (n : ℕ). endFrom block n i) (sym e) ∙ l .inv .2,
+    )
 
 returns-2 : tie.Need-returns-2 Inv-loop μ-loop
 returns-2 c =
-    let e : 240 - c .before .loop .i ≡ 0 = omega arith in
-    (cc (end-none (c .before .before .args .block .now) (c .before .loop .i)), search needs, search needs)
+    let l = c .before .loop in
+    let block = c .before .before .args .block .now in
+    let e : 240 - l .i ≡ 0 = omega arith in
+    (sym (end-none block (l .i)) ∙ ap (λ (n : ℕ). endFrom block n (l .i)) (sym e) ∙ l .inv .2, search needs, search needs)
 
 pub name-end-spec : {M : Type 1} → statement M
 name-end-spec =

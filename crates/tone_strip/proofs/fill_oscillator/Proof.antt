@@ -1,8 +1,7 @@
 -- `fill_oscillator` fills the strip, and answers that no height takes steps. The loop's invariant: the first i samples are written. Assumes nothing.
-use mathlib.Core.Path.{refl, ap}
+use mathlib.Core.Path.{refl}
 use Prim.Native.Nat.{_-_}
 use borrow.Author.Needs.{needs}
-use Rattle.curve.specs.declared.Height.{Height}
 use Rattle.curve.specs.Curve.{drawnOf}
 use Rattle.oscillator.specs.Formula.{oscillatorHeightOf}
 use Rattle.generator.specs.declared.Shape.the-variants.{Oscillator as AnOscillator}
@@ -22,8 +21,7 @@ unfolding heightOf
 loop-again c =
     let l = c .before .before .before in
     let s = AnOscillator (l .before .before .before .args .o) in
-    let height = ap (λ (h : Height). h .height) (c .oscillator-height .ensures) in
-    filled-next s _ _ _ (l .loop .inv) (search needs) _ (l .before .last-of .ensures) (c .before .sample-position .ensures) height
+    filled-next s _ _ _ (l .loop .inv) (search needs) _ (l .before .last-of .ensures) (c .before .sample-position .ensures) (simp (c .oscillator-height .ensures))
 
 returns : tie.Need-returns Inv-loop μ-loop
 unfolding heightOf oscillatorHeightOf drawnOf
