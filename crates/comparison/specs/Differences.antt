@@ -4,7 +4,7 @@ use mathlib.Core.List.{List, [], _∷_, _++_}
 use Prim.Native.Nat.{ℕ, zero, suc, _+_}
 use lib.Dec.{eqb}
 use lib.ListN.{length}
-use Rattle.text.specs.Text.{ascii}
+use Rattle.text.specs.Text.{ascii, textsBelow}
 use Rattle.numerals.specs.Spelled.{decimalOf}
 use Rattle.codes.specs.declared.Code.{Code}
 use Rattle.codes.specs.declared.CodeRead.{CodeRead}
@@ -36,9 +36,8 @@ codeText (Known c) a b = generatorText c a b
 codeText Above a b = []
 
 -- The generators of the first k codes.
-unfoldable pub codesText : ℕ → (ℕ → ℕ) → (ℕ → ℕ) → List ℕ
-codesText zero a b = []
-codesText (suc k) a b = codesText k a b ++ codeText (codeOf k) a b
+abbrev pub codesText : ℕ → (ℕ → ℕ) → (ℕ → ℕ) → List ℕ
+codesText k a b = textsBelow (λ n. codeText (codeOf n) a b) k
 
 -- ---- the gates, which have no height
 unfoldable pub gateText : (ℕ → ℕ) → (ℕ → ℕ) → List ℕ

@@ -1,3 +1,2 @@
--- One row more; rows held against their definition.
-pub mod ByteRows
+-- Rows held against their definition.
 pub mod Examples

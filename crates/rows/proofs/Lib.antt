@@ -1,3 +1,2 @@
--- What the loop needs: one row more; a row, computed.
-pub mod Rows
+-- A row held against its definition.
 pub mod Examples

@@ -1,11 +1,11 @@
 -- A STRIP AS TEXT: docs/SPECIFICATION.md, "Heights as text". A row holds a sample's position and its height, in decimal and as bits. Definitions only.
 use mathlib.Core.Bool.{cond}
 use mathlib.Core.List.{List, [], _++_}
-use Prim.Native.Nat.{ℕ, zero, suc}
+use Prim.Native.Nat.{ℕ}
 use lib.Dec.{leb}
 use lib.ListN.{length, getD}
 use lib.Ieee.{Float, nan, binary32, toBits}
-use Rattle.text.specs.Text.{ascii}
+use Rattle.text.specs.Text.{ascii, textsBelow}
 use Rattle.numerals.specs.Spelled.{hexOf, fixedOf}
 use Rattle.fixed_point.specs.Nearest.{nearestOf}
 use Rattle.strip.specs.Strip.{samplePosition}
@@ -27,9 +27,8 @@ unfoldable pub sampleText : List Float → ℕ → List ℕ
 sampleText heights i = rowText (samplePosition (length heights) i) (getD heights i nan)
 
 -- The rows of the first k samples.
-unfoldable pub someRows : List Float → ℕ → List ℕ
-someRows heights zero = []
-someRows heights (suc k) = someRows heights k ++ sampleText heights k
+abbrev pub someRows : List Float → ℕ → List ℕ
+someRows heights k = textsBelow (sampleText heights) k
 
 -- A row for each sample. The number of a sample has 16 bits: more than 65,536 samples have no rows.
 unfoldable pub rowsText : List Float → List ℕ

@@ -1,12 +1,14 @@
 -- The laws of `Puts`, for whoever calls writers. Calls in a row put their texts as one, a ++ b ++ c: the answer is f ⨾ g ⨾ h, over what they ensure. A loop over a text
--- that is defined from its front has `Left` in its invariant: from `left-all`, by `left-less` at each turn, to `left-none`. Assumes nothing.
+-- that is defined from its front has `Left` in its invariant: from `left-all`, by `left-less` at each turn, to `left-none`. One over texts by their numbers has `Puts` of
+-- `textsBelow`: from `no-text`, by `text-more`, to `all-texts`. Assumes nothing.
 use mathlib.Core.Path.{_≡_, refl, ap, _∙_}
 use mathlib.Core.List.{List, [], _∷_, _++_}
 use Prim.Native.Nat.{ℕ, _+_, _<_, _≤_}
+use native.Mathlib.Nat.{le-antisymm}
 use native.Mathlib.Numerals.{add-one}
 use lib.ListN.{length, take, getD}
 use lib.Seq.{take-suc, take-all}
-use Rattle.text.specs.Text.{Page, putByte, putAll, Puts}
+use Rattle.text.specs.Text.{textsBelow, Page, putByte, putAll, Puts}
 
 pub all-then : (p : Page) (x y : List ℕ) → putAll (putAll p x) y ≡ putAll p (x ++ y)
 unfolding putAll
@@ -33,6 +35,19 @@ one-more text i h f g = rw (add-one, take-suc text i 0) (f ⨾ g)
 
 pub all-put : (text : List ℕ) (i : ℕ) {b b₁ : List ℕ} {p p₁ : ℕ} → length text ≤ i → Puts b p (take i text) b₁ p₁ → Puts b p text b₁ p₁
 all-put text i h f = puts-as (take-all i text h) f
+
+-- ---- texts put one after the other: those of the numbers below k
+module _ (f : ℕ → List ℕ) where
+  pub no-text : {b : List ℕ} {p : ℕ} → Puts b p (textsBelow f 0) b p
+  unfolding textsBelow
+  no-text = puts-none _ _
+
+  pub text-more : (k : ℕ) {b b₁ b₂ : List ℕ} {p p₁ p₂ : ℕ} → Puts b p (textsBelow f k) b₁ p₁ → Puts b₁ p₁ (f k) b₂ p₂ → Puts b p (textsBelow f (k + 1)) b₂ p₂
+  unfolding textsBelow
+  text-more k g h = rw (add-one k) (g ⨾ h)
+
+  pub all-texts : (k n : ℕ) {b b₁ : List ℕ} {p p₁ : ℕ} → k ≤ n → n ≤ k → Puts b p (textsBelow f k) b₁ p₁ → Puts b p (textsBelow f n) b₁ p₁
+  all-texts k n h l g = let e : k ≡ n = le-antisymm h l in rw e at g
 
 -- ---- a text put from its front: what is left of x, at the position p₁ of the buffer b₁, is y
 pub record Left (b : List ℕ) (p : ℕ) (x b₁ : List ℕ) (p₁ : ℕ) (y : List ℕ) : Type 0 where

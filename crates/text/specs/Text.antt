@@ -2,8 +2,8 @@
 -- A text is a list of bytes. `ascii "<svg"` is the list of its characters' codes and computes at a literal, so that it is the contents of the Rust's b"<svg" by refl.
 use mathlib.Core.Path.{_≡_}
 use mathlib.Core.Bool.{cond}
-use mathlib.Core.List.{List, [], _∷_}
-use Prim.Native.Nat.{ℕ, _+_}
+use mathlib.Core.List.{List, [], _∷_, _++_}
+use Prim.Native.Nat.{ℕ, zero, suc, _+_}
 use Prim.Native.Char.{code}
 use Prim.Native.String.{String, [] as []ˢ, _∷_ as _∷ˢ_}
 use lib.Dec.{ltb}
@@ -13,6 +13,11 @@ use lib.ListN.{length, set}
 abbrev pub ascii : String → List ℕ
 ascii []ˢ = []
 ascii (c ∷ˢ s) = code c ∷ ascii s
+
+-- The texts of the numbers below k, one after the other.
+unfoldable pub textsBelow : (ℕ → List ℕ) → ℕ → List ℕ
+textsBelow text zero = []
+textsBelow text (suc k) = textsBelow text k ++ text k
 
 -- A buffer, and the position of the next byte in it.
 pub record Page : Type 0 where

@@ -1,8 +1,8 @@
 -- THE LINES OF THE BYTES THAT NO CURVE DRAWS: docs/SPECIFICATION.md, "What differs". A reading gives the byte of each number: a is the old, b the new. Definitions only.
 use mathlib.Core.Bool.{cond}
 use mathlib.Core.List.{List, [], _++_}
-use Prim.Native.Nat.{ℕ, zero, suc}
-use Rattle.text.specs.Text.{ascii}
+use Prim.Native.Nat.{ℕ}
+use Rattle.text.specs.Text.{ascii, textsBelow}
 use Rattle.numerals.specs.Spelled.{decimalOf}
 use Rattle.parameter_names.specs.ParameterNames.{parameterName}
 use Rattle.undrawn_count.specs.Count.{differs}
@@ -19,6 +19,5 @@ unfoldable pub changeText : ℕ → ℕ → ℕ → List ℕ
 changeText n a b = cond (differs n a b) (lineText n a b) []
 
 -- The lines of the first k bytes.
-unfoldable pub undrawnText : ℕ → (ℕ → ℕ) → (ℕ → ℕ) → List ℕ
-undrawnText zero a b = []
-undrawnText (suc k) a b = undrawnText k a b ++ changeText k (a k) (b k)
+abbrev pub undrawnText : ℕ → (ℕ → ℕ) → (ℕ → ℕ) → List ℕ
+undrawnText k a b = textsBelow (λ n. changeText n (a n) (b n)) k

@@ -3,9 +3,9 @@ use mathlib.Core.Path.{_≡_}
 use Prim.Native.Nat.{_-_, _≤_}
 use lib.ListN.{length}
 use Rattle.text.specs.Text.{Puts}
+use Rattle.text.proofs.Writing.{no-text, text-more, all-texts}
 use Rattle.code_bytes.specs.Bytes.{byteAt}
 use Rattle.comparison.specs.Differences.{codesText}
-use Rattle.comparison.proofs.Steps.{no-code, code-more, all-codes}
 use borrow.Author.Needs.{needs}
 use Rattle.comparison.proofs.put_codes.Statement.{statement}
 use Rattle.comparison.proofs.put_codes.Tie as tie
@@ -17,13 +17,13 @@ abbrev μ-loop : tie.MeasureT-loop
 μ-loop out₀ at old new next₀ number₀ out next number = 14 - number
 
 loop-holds : tie.Need-loop-holds Inv-loop μ-loop
-loop-holds c = (search needs, search needs, no-code _ _)
+loop-holds c = (search needs, search needs, no-text _)
 
 loop-again : tie.Need-loop-again Inv-loop μ-loop
-loop-again c = (search needs, search needs, code-more _ _ _ (c .before .before .before .before .before .loop .inv .2) (c .before .before .put-numbered .ensures))
+loop-again c = (search needs, search needs, text-more _ _ (c .before .before .before .before .before .loop .inv .2) (c .before .before .put-numbered .ensures))
 
 returns : tie.Need-returns Inv-loop μ-loop
-returns c = all-codes _ _ _ _ (c .before .loop .inv .0) (c .loop-test .left) (c .before .loop .inv .2)
+returns c = all-texts _ _ _ (c .before .loop .inv .0) (c .loop-test .left) (c .before .loop .inv .2)
 
 pub put-codes-spec : {M : Type 1} → statement M
 put-codes-spec = tie.close

@@ -3,9 +3,9 @@ use mathlib.Core.Path.{_≡_}
 use Prim.Native.Nat.{_-_, _≤_}
 use lib.ListN.{length}
 use Rattle.text.specs.Text.{Puts}
+use Rattle.text.proofs.Writing.{no-text, text-more, all-texts}
 use Rattle.code_bytes.specs.Bytes.{byteAt}
 use Rattle.parameter_rows.specs.Rows.{rowsText}
-use Rattle.parameter_rows.proofs.ByteRows.{no-row, row-more, all-rows}
 use borrow.Author.Needs.{needs}
 use Rattle.parameter_rows.proofs.put_rows.Statement.{statement}
 use Rattle.parameter_rows.proofs.put_rows.Tie as tie
@@ -17,13 +17,13 @@ abbrev μ-loop : tie.MeasureT-loop
 μ-loop out₀ at block next₀ n₀ out next n = 242 - n
 
 loop-holds : tie.Need-loop-holds Inv-loop μ-loop
-loop-holds c = (search needs, search needs, no-row _)
+loop-holds c = (search needs, search needs, no-text _)
 
 loop-again : tie.Need-loop-again Inv-loop μ-loop
-loop-again c = (search needs, search needs, row-more _ _ (c .before .before .before .before .before .before .loop .inv .2) (c .before .before .put-row .ensures))
+loop-again c = (search needs, search needs, text-more _ _ (c .before .before .before .before .before .before .loop .inv .2) (c .before .before .put-row .ensures))
 
 returns : tie.Need-returns Inv-loop μ-loop
-returns c = all-rows _ _ _ (c .before .loop .inv .0) (c .loop-test .left) (c .before .loop .inv .2)
+returns c = all-texts _ _ _ (c .before .loop .inv .0) (c .loop-test .left) (c .before .loop .inv .2)
 
 pub put-rows-spec : {M : Type 1} → statement M
 put-rows-spec = tie.close

@@ -3,8 +3,8 @@ use mathlib.Core.Path.{_≡_}
 use Prim.Native.Nat.{_-_, _≤_}
 use lib.ListN.{length}
 use Rattle.text.specs.Text.{Puts}
+use Rattle.text.proofs.Writing.{no-text, text-more, all-texts}
 use Rattle.rows.specs.Rows.{someRows}
-use Rattle.rows.proofs.Rows.{no-row, row-more, all-rows}
 use borrow.Author.Needs.{needs}
 use Rattle.rows.proofs.put_samples.Statement.{statement}
 use Rattle.rows.proofs.put_samples.Tie as tie
@@ -16,13 +16,13 @@ abbrev μ-loop : tie.MeasureT-loop
 μ-loop out₀ at heights next₀ i₀ out next i = length heights - i
 
 loop-holds : tie.Need-loop-holds Inv-loop μ-loop
-loop-holds c = (search needs, search needs, no-row _)
+loop-holds c = (search needs, search needs, no-text _)
 
 loop-again : tie.Need-loop-again Inv-loop μ-loop
-loop-again c = (search needs, search needs, row-more _ _ (c .before .before .before .before .before .loop .inv .2) (c .before .before .put-sample .ensures))
+loop-again c = (search needs, search needs, text-more _ _ (c .before .before .before .before .before .loop .inv .2) (c .before .before .put-sample .ensures))
 
 returns : tie.Need-returns Inv-loop μ-loop
-returns c = all-rows _ _ _ (c .before .loop .inv .0) (c .loop-test .left) (c .before .loop .inv .2)
+returns c = all-texts _ _ _ (c .before .loop .inv .0) (c .loop-test .left) (c .before .loop .inv .2)
 
 pub put-samples-spec : {M : Type 1} → statement M
 put-samples-spec = tie.close

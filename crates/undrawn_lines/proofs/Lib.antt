@@ -1,2 +1,0 @@
--- What the loop needs.
-pub mod ByteLines
