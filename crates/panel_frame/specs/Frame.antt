@@ -12,6 +12,10 @@ use Rattle.labels.specs.Names.{titleOf}
 abbrev pub heightUnits : Float → ℕ
 heightUnits h = nearestOf h 2500
 
+-- A position across the frame, in hundredths of a millimetre.
+abbrev pub acrossUnits : Float → ℕ
+acrossUnits x = nearestOf x 5000
+
 -- The start of panel k, at the lower left corner of its frame: five to a row, 56 mm apart and 60.5 mm below each other.
 unfoldable pub placeText : ℕ → List ℕ
 placeText k = ascii "<g transform='translate(" ++ decimalOf (1150 + 5600 * (k % 5)) ++ ascii " " ++ decimalOf (5400 + 6050 * (k / 5)) ++ ascii ")'>"

@@ -9,7 +9,7 @@ use Rattle.marks.specs.declared.MarkKind.the-variants.{Segment as ASegment, Cor
 use Rattle.marks.specs.declared.Mark.{Mark}
 use Rattle.marks.specs.declared.Marks.{Marks}
 use Rattle.marks.specs.Marks.{kindNumber, markAt}
-use Rattle.panel_bars.specs.Bars.{acrossUnits}
+use Rattle.panel_frame.specs.Frame.{acrossUnits}
 
 -- ---- what is at a mark
 -- By its kind's number: the letter of a segment that starts, to the right of its rule, or a word below the rule.
