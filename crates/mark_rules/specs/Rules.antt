@@ -1,4 +1,5 @@
--- A MARK ON A PANEL: docs/SPECIFICATION.md, "The page". The origin is the lower left corner of the frame, a unit is 1/100 mm, and y grows downward. Definitions only.
+-- A MARK ON A PANEL: docs/SPECIFICATION.md, "The page". The origin is the lower left corner of the frame, a unit is
+-- 1/100 mm, and y grows downward. Definitions only.
 use mathlib.Core.List.{List, _++_}
 use Prim.Native.Nat.{ℕ, _+_, _*_}
 use Rattle.text.specs.Text.{ascii}
@@ -9,7 +10,8 @@ use Rattle.marks.specs.declared.Mark.{Mark}
 use Rattle.marks.specs.Marks.{kindNumber}
 use Rattle.panel_frame.specs.Frame.{acrossUnits}
 
--- What is at a mark, by its kind's number: the letter of a segment that starts, to the right of its rule, or a word below the rule.
+-- What is at a mark, by its kind's number: the letter of a segment that starts, to the right of its rule, or a word
+-- below the rule.
 abbrev pub kindText : MarkKind → List ℕ
 kindText kind = wordOf (ascii " dx='50'>A</text>| dx='50'>D</text>| dx='50'>S</text>| dx='50'>R</text>| class='m'>corner</text>| class='m'>cycle</text>| class='m'>tap</text>| class='m'>width</text>| class='m'>sweep</text>") (kindNumber kind)
 

@@ -1,4 +1,5 @@
--- WHAT FOLLOWS THE CODES' PANELS: docs/SPECIFICATION.md, "The page". `file` is the name of the block's file, and empty where there is none. Definitions only.
+-- WHAT FOLLOWS THE CODES' PANELS: docs/SPECIFICATION.md, "The page". `file` is the name of the block's file, and empty
+-- where there is none. Definitions only.
 use mathlib.Core.List.{List, _++_}
 use Prim.Native.Nat.{ℕ}
 use Rattle.code_bytes.specs.Bytes.{byteAt, gatesByte}

@@ -1,5 +1,5 @@
--- THE FRAME OF A PANEL: docs/SPECIFICATION.md, "The page". The origin is the lower left corner of the frame, a unit is 1/100 mm, and y grows downward: a frame is 50 mm wide and 25 mm high,
--- and a height h is at -2500 h. Definitions only.
+-- THE FRAME OF A PANEL: docs/SPECIFICATION.md, "The page". The origin is the lower left corner of the frame, a unit is
+-- 1/100 mm, and y grows downward: a frame is 50 mm wide and 25 mm high, and a height h is at -2500 h. Definitions only.
 use mathlib.Core.List.{List, _++_}
 use Prim.Native.Nat.{ℕ, _+_, _*_, _/_, _%_}
 use lib.Ieee.{Float}

@@ -7,7 +7,8 @@ use Rattle.marks.specs.declared.Marks.{Marks}
 use Rattle.marks.specs.Marks.{markAt}
 use Rattle.mark_rules.specs.Rules.{markText}
 
--- The row of mark number k under the frame: a row for each mark, so that two at one place are both read; cycles share the fourth.
+-- The row of mark number k under the frame: a row for each mark, so that two at one place are both read; cycles share
+-- the fourth.
 abbrev pub rowOf : ℕ → MarkKind → ℕ
 rowOf k (ASegment s) = k
 rowOf k Corner = k
