@@ -1,10 +1,12 @@
--- THE HEAD OF A COMPARISON: docs/SPECIFICATION.md, "The page". `file` is the name of the block's file, and empty where there is none; `oldFile` is that of the older block's. Definitions only.
+-- THE HEAD OF A COMPARISON: docs/SPECIFICATION.md, "The page". `file` is the name of the block's file, and empty where
+-- there is none; `oldFile` is that of the older block's. Definitions only.
 use mathlib.Core.List.{List, _++_}
 use Prim.Native.Nat.{ℕ}
 use Rattle.text.specs.Text.{ascii}
 use Rattle.provenance.specs.Provenance.{nameText, fileText}
 
--- The document's title, and the styles that only a comparison has: w what a byte was, s the note beside it, and the file beside a name, which is not bold.
+-- The document's title, and the styles that only a comparison has: w what a byte was, s the note beside it, and the
+-- file beside a name, which is not bold.
 unfoldable pub comparedTitle : List ℕ → List ℕ → List ℕ → List ℕ → List ℕ
 comparedTitle oldFile older file block =
     ascii "<title>Comparison of " ++ nameText oldFile older ++ ascii " and " ++ nameText file block ++

@@ -27,7 +27,8 @@ dialText y name was b note = dialStart y name was b ++ note ++ dialEnd
 unfoldable pub plainDial : ℕ → List ℕ → ℕ → ℕ → List ℕ
 plainDial y name was b = dialStart y name was b ++ dialEnd
 
--- The note of an envelope's time or level is its curve. The curve's byte is to be dialled in too, so it is bold, and says what it was.
+-- The note of an envelope's time or level is its curve. The curve's byte is to be dialled in too, so it is bold, and
+-- says what it was.
 unfoldable pub curveNote : ℕ → ℕ → List ℕ
 curveNote was curve = ascii "curve <tspan class='b'>" ++ decimalOf curve ++ ascii "</tspan>" ++ wasText was curve
 

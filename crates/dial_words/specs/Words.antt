@@ -1,4 +1,5 @@
--- A LINE WHOSE NOTE IS A WORD: docs/SPECIFICATION.md, "The page". `b` is the byte, and `was` what it was in the older program. Definitions only.
+-- A LINE WHOSE NOTE IS A WORD: docs/SPECIFICATION.md, "The page". `b` is the byte, and `was` what it was in the older
+-- program. Definitions only.
 use mathlib.Core.List.{List}
 use Prim.Native.Nat.{ℕ}
 use Rattle.text.specs.Text.{ascii}

@@ -1,4 +1,5 @@
-// The lines that say what to dial in whose note is a word: what the byte stands for. `n` is the byte's number in both blocks, as in `dial_lines`.
+// The lines that say what to dial in whose note is a word: what the byte stands for. `n` is the byte's number in both
+// blocks, as in `dial_lines`.
 ghost use Rattle.text.specs.Text.{Puts};
 ghost use Rattle.code_bytes.specs.Bytes.{byteAt};
 ghost use Rattle.dial_words.specs.Words.{switchDial, shapeDial, polesDial, sourceDial, depthDial};

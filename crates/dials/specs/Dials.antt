@@ -1,4 +1,5 @@
--- THE DIALS OF EACH GENERATOR, from a reading of the bytes: docs/SPECIFICATION.md, "The page". a reads the older program, which is the same one where there is none, and b the program. Definitions only.
+-- THE DIALS OF EACH GENERATOR, from a reading of the bytes: docs/SPECIFICATION.md, "The page". a reads the older
+-- program, which is the same one where there is none, and b the program. Definitions only.
 use mathlib.Core.List.{List}
 use Prim.Native.Nat.{ℕ}
 use Rattle.text.specs.Text.{ascii}

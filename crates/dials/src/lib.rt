@@ -1,4 +1,5 @@
-// The lines of a panel that say what to dial in, for each code: what differs from an older block says what it was. Without an older program both are the same block.
+// The lines of a panel that say what to dial in, for each code: what differs from an older block says what it was.
+// Without an older program both are the same block.
 ghost use Rattle.text.specs.Text.{Puts};
 ghost use Rattle.code_bytes.specs.Bytes.{byteAt};
 ghost use Rattle.dials.specs.Dials.{dialsOf};

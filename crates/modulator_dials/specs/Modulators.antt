@@ -1,8 +1,10 @@
--- THE DIALS OF THE ENVELOPES AND LFOS, from a reading of the bytes: docs/SPECIFICATION.md, "The page". a reads the older program, which is the same one where there is none, and b the program. Definitions only.
+-- THE DIALS OF THE ENVELOPES AND LFOS, from a reading of the bytes: docs/SPECIFICATION.md, "The page". a reads the
+-- older program, which is the same one where there is none, and b the program. Definitions only.
 use mathlib.Core.List.{List, _++_}
 use Prim.Native.Nat.{ℕ, _+_}
 use Rattle.text.specs.Text.{ascii}
-use Rattle.code_bytes.specs.Bytes.{shapePlace, keySyncPlace, slewPlace, decayPlace, sustainPlace, releasePlace, attackCurvePlace, decayCurvePlace, sustainCurvePlace, releaseCurvePlace}
+use Rattle.code_bytes.specs.Bytes.{shapePlace, keySyncPlace, slewPlace, decayPlace, sustainPlace, releasePlace}
+use Rattle.code_bytes.specs.Bytes.{attackCurvePlace, decayCurvePlace, sustainCurvePlace, releaseCurvePlace}
 use Rattle.dial_lines.specs.Lines.{lineOne, lineTwo, lineThree, lineFour, plainDial, curvedDial}
 use Rattle.dial_words.specs.Words.{switchDial, shapeDial}
 
@@ -20,7 +22,8 @@ lfoDials a b n =
     shapeDial (a (n + shapePlace)) (b (n + shapePlace)) ++ plainDial lineTwo (ascii "Slew rate") (a (n + slewPlace)) (b (n + slewPlace)) ++
     switchDial lineThree (ascii "Key sync") (a (n + keySyncPlace)) (b (n + keySyncPlace))
 
--- The bytes of an LFO that no curve draws, from byte n on: its rate, arp sync and mono mode. They stand below the LFO's second panel.
+-- The bytes of an LFO that no curve draws, from byte n on: its rate, arp sync and mono mode. They stand below the LFO's
+-- second panel.
 abbrev pub arpSyncPlace : ℕ
 arpSyncPlace = 4
 

@@ -1,4 +1,5 @@
-// The lines of the envelopes and LFOs that say what to dial in, from a generator's first byte on. Without an older program both blocks are the same.
+// The lines of the envelopes and LFOs that say what to dial in, from a generator's first byte on. Without an older
+// program both blocks are the same.
 ghost use Prim.Native.Nat.{_+_, _<_};
 ghost use Rattle.text.specs.Text.{Puts};
 ghost use Rattle.code_bytes.specs.Bytes.{byteAt, blockLength, slewPlace, releaseCurvePlace};

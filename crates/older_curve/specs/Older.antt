@@ -14,6 +14,7 @@ unfoldable pub samePoints : List Float → List Float → ℕ → Bool
 samePoints old new zero = true
 samePoints old new (suc k) = cond (eqb (heightUnits (getD old k nan)) (heightUnits (getD new k nan))) (samePoints old new k) false
 
--- The older curve, which lies beneath in grey, where one of its 501 points is another; a curve that is drawn the same has none beneath it.
+-- The older curve, which lies beneath in grey, where one of its 501 points is another; a curve that is drawn the same
+-- has none beneath it.
 unfoldable pub olderCurveText : List Float → List Float → List ℕ
 olderCurveText old new = cond (samePoints old new 501) [] (lineText (ascii "<polyline class='u' points='") old)

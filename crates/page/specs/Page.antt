@@ -5,16 +5,16 @@ use mathlib.Core.List.{List, [], _++_}
 use Prim.Native.Nat.{ℕ}
 use lib.Dec.{eqb}
 use lib.ListN.{length}
-use Rattle.code_bytes.specs.Bytes.{byteAt, gatesByte, blockLength}
-use Rattle.arpeggio_panel.specs.Arpeggio.{arpeggioText}
+use Rattle.code_bytes.specs.Bytes.{blockLength}
 use Rattle.page_panels.specs.Panels.{panelsText}
-use Rattle.page_head.specs.Head.{styleText, headText, footText}
+use Rattle.page_head.specs.Head.{styleText, headText}
+use Rattle.page_end.specs.End.{pageEnd}
 use Rattle.compared_head.specs.Compared.{comparedHead}
 
 -- ---- the whole
 -- What follows the head. Without an older program the older block is the block, and nothing differs.
 unfoldable pub bodyText : List ℕ → List ℕ → List ℕ → List ℕ
-bodyText file older block = panelsText older block 14 ++ arpeggioText (byteAt older gatesByte) (byteAt block gatesByte) ++ footText file block
+bodyText file older block = panelsText older block 14 ++ pageEnd file older block
 
 unfoldable pub pageOf : List ℕ → List ℕ → List ℕ
 pageOf file block = styleText ++ headText file block ++ bodyText file block block

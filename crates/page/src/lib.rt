@@ -4,10 +4,9 @@ ghost use lib.ListN.{length};
 ghost use Rattle.text.specs.Text.{Puts};
 ghost use Rattle.code_bytes.specs.Bytes.{blockLength};
 ghost use Rattle.page.specs.Page.{bodyText, pageOf, comparisonOf, pageText, comparisonText};
-use arpeggio_panel::put_arpeggio;
 use block::BLOCK;
 use compared_head::put_compared_head;
-use page_head::put_foot;
+use page_end::end_page;
 use page_head::put_head;
 use page_head::put_style;
 use page_panels::put_panels;
@@ -17,9 +16,8 @@ fn put_body(out: &mut [u8], at: usize, file: &[u8], older: &[u8], block: &[u8]) 
     requires { ⌜ (length (now older) ≡ blockLength) × (length (now block) ≡ blockLength) ⌝ }
     ensures { λ r. ⌜ Puts (now (out .entry)) at (bodyText (now (file .entry)) (now (older .entry)) (now (block .entry))) (now (out .exit)) r ⌝ }
 {
-    let mut next = put_panels(out, at, older, block);
-    next = put_arpeggio(out, next, older, block);
-    put_foot(out, next, file, block)
+    let next = put_panels(out, at, older, block);
+    end_page(out, next, file, older, block)
 }
 
 fn put_page(out: &mut [u8], file: &[u8], block: &[u8]) -> usize

@@ -1,5 +1,5 @@
--- THE HEAD OF A SHEET AND THE FOOT OF A PAGE: docs/SPECIFICATION.md, "The page". A4, landscape, in hundredths of a millimetre. `file` is the name of the block's file, and empty where there is none.
--- Definitions only.
+-- THE HEAD OF A SHEET AND THE FOOT OF A PAGE: docs/SPECIFICATION.md, "The page". A4, landscape, in hundredths of a
+-- millimetre. `file` is the name of the block's file, and empty where there is none. Definitions only.
 use mathlib.Core.List.{List, _++_}
 use Prim.Native.Nat.{ℕ}
 use Rattle.text.specs.Text.{ascii}

@@ -1,5 +1,6 @@
--- THE PANELS OF THE PAGE: docs/SPECIFICATION.md, "The page". Fifteen in three rows of five: one for each code in the order of their numbers, and the arpeggio's
--- (`arpeggio_panel`). Without an older program `older` is the block itself, and nothing differs. Definitions only.
+-- THE PANELS OF THE PAGE: docs/SPECIFICATION.md, "The page". Fifteen in three rows of five: one for each code in the
+-- order of their numbers, and the arpeggio's (`arpeggio_panel`). Without an older program `older` is the block itself,
+-- and nothing differs. Definitions only.
 use mathlib.Core.List.{List, [], _++_}
 use Prim.Native.Nat.{ℕ, zero, suc}
 use Rattle.codes.specs.declared.CodeRead.{CodeRead}
@@ -14,7 +15,8 @@ use Rattle.panel_curves.specs.Curves.{drawnText, olderText}
 -- The panel of a code, in place k: an older curve, over it what is drawn of the code, and the rest.
 unfoldable pub codePanel : List ℕ → List ℕ → ℕ → CodeRead → List ℕ
 codePanel older block k (Known c) =
-    placeText k ++ olderText (shapeOf c (byteAt older)) (shapeOf c (byteAt block)) ++ drawnText (shapeOf c (byteAt block)) ++ panelRest (byteAt older) (byteAt block) k c
+    placeText k ++ olderText (shapeOf c (byteAt older)) (shapeOf c (byteAt block)) ++
+    drawnText (shapeOf c (byteAt block)) ++ panelRest (byteAt older) (byteAt block) k c
 codePanel older block k Above = []
 
 -- The panel of code number k.

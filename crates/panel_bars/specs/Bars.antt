@@ -1,27 +1,9 @@
 -- THE BARS OF A PANEL: docs/SPECIFICATION.md, "The page". Definitions only.
-use mathlib.Core.List.{List, [], _++_}
-use Prim.Native.Nat.{ℕ, zero, suc, min}
-use lib.Ieee.{Float}
-use Rattle.exact.specs.Binary32.{_⊘_, bits}
+use mathlib.Core.List.{List}
+use Prim.Native.Nat.{ℕ, min}
 use Rattle.text.specs.Text.{ascii}
-use Rattle.numerals.specs.Spelled.{decimalOf}
-use Rattle.fixed_point.specs.Nearest.{nearestOf}
-use Rattle.gates.specs.declared.Gate.{Gate}
 use Rattle.gates.specs.declared.Gates.{Gates}
-use Rattle.gates.specs.Gates.{gateAt}
-
--- A position across the frame, in hundredths of a millimetre.
-abbrev pub acrossUnits : Float → ℕ
-acrossUnits x = nearestOf x 5000
-
--- A bar from one step's place to another's, after its start and with its way up: a step is a quarter of the frame.
-unfoldable pub barText : List ℕ → List ℕ → Gate → List ℕ
-barText start up g = start ++ decimalOf (acrossUnits (g .start ⊘ bits 0x4080_0000)) ++ up ++ decimalOf (acrossUnits (g .end ⊘ bits 0x4080_0000)) ++ ascii "V0Z'/>"
-
--- The first k bars.
-unfoldable pub someBars : List ℕ → List ℕ → Gates → ℕ → List ℕ
-someBars start up g zero = []
-someBars start up g (suc k) = someBars start up g k ++ barText start up (gateAt g k)
+use Rattle.bar_paths.specs.Paths.{someBars}
 
 -- All that are used; a record has four places. They are filled, and 15 mm high.
 abbrev pub barsText : Gates → List ℕ

@@ -1,38 +1,9 @@
 // The bars of the gates in a panel, and its steps.
-ghost use Prim.Native.Nat.{_<_, min};
 ghost use Rattle.text.specs.Text.{Puts};
-ghost use Rattle.panel_bars.specs.Bars.{barText, someBars, barsText, olderBarsText, stepsText};
-use fixed_point::nearest;
-use gates::GATES_DRAWN;
-use gates::Gate;
+ghost use Rattle.panel_bars.specs.Bars.{barsText, olderBarsText, stepsText};
+use bar_paths::put_each_bar;
 use gates::Gates;
-use lists::at_most;
-use numerals::put_decimal;
 use text::put;
-
-// ---- the bars of the arpeggio
-fn put_bar(out: &mut [u8], at: usize, start: &[u8], up: &[u8], bar: Gate) -> usize
-    ensures { λ r. ⌜ Puts (now (out .entry)) at (barText (now (start .entry)) (now (up .entry)) bar) (now (out .exit)) r ⌝ }
-{
-    let mut next = put(out, at, start);
-    next = put_decimal(out, next, nearest(bar.start / 4.0, 5000));
-    next = put(out, next, up);
-    next = put_decimal(out, next, nearest(bar.end / 4.0, 5000));
-    put(out, next, b"V0Z'/>")
-}
-
-fn put_each_bar(out: &mut [u8], at: usize, start: &[u8], up: &[u8], bars: Gates) -> usize
-    ensures { λ r. ⌜ Puts (now (out .entry)) at (someBars (now (start .entry)) (now (up .entry)) bars (min (bars .count) 4)) (now (out .exit)) r ⌝ }
-{
-    let count = at_most(bars.count, GATES_DRAWN);
-    let mut next = at;
-    let mut i: usize = 0;
-    while i < count {
-        next = put_bar(out, next, start, up, bars.places[i]);
-        i += 1;
-    }
-    next
-}
 
 pub fn put_bars(out: &mut [u8], at: usize, bars: Gates) -> usize
     ensures { λ r. ⌜ Puts (now (out .entry)) at (barsText bars) (now (out .exit)) r ⌝ }

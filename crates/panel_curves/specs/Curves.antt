@@ -11,7 +11,7 @@ use Rattle.panel_labels.specs.Labels.{subtitleText}
 use Rattle.panel_frame.specs.Frame.{restText}
 use Rattle.panel_line.specs.Line.{curveText}
 use Rattle.older_curve.specs.Older.{olderCurveText}
-use Rattle.panel_marks.specs.Rules.{marksText}
+use Rattle.panel_marks.specs.Marks.{marksText}
 
 -- What a strip of 501 samples holds before it is filled.
 abbrev pub blank : List Float

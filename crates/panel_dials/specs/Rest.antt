@@ -1,4 +1,5 @@
--- THE REST OF A CODE'S PANEL, after its curve: docs/SPECIFICATION.md, "The page". a reads the older program, which is the same one where there is none, and b the program. Definitions only.
+-- THE REST OF A CODE'S PANEL, after its curve: docs/SPECIFICATION.md, "The page". a reads the older program, which is
+-- the same one where there is none, and b the program. Definitions only.
 use mathlib.Core.List.{List, _++_}
 use Prim.Native.Nat.{ℕ}
 use Rattle.codes.specs.declared.Code.{Code}

@@ -1,5 +1,5 @@
--- THE FRAME OF A PANEL: docs/SPECIFICATION.md, "The page". The origin is the lower left corner of the frame, a unit is 1/100 mm, and y grows downward: a frame is 50 mm wide and 25 mm high,
--- and a height h is at -2500 h. Definitions only.
+-- THE FRAME OF A PANEL: docs/SPECIFICATION.md, "The page". The origin is the lower left corner of the frame, a unit is
+-- 1/100 mm, and y grows downward: a frame is 50 mm wide and 25 mm high, and a height h is at -2500 h. Definitions only.
 use mathlib.Core.List.{List, _++_}
 use Prim.Native.Nat.{ℕ, _+_, _*_, _/_, _%_}
 use lib.Ieee.{Float}
@@ -11,6 +11,10 @@ use Rattle.labels.specs.Titles.{titleOf}
 -- A height in the frame, in hundredths of a millimetre.
 abbrev pub heightUnits : Float → ℕ
 heightUnits h = nearestOf h 2500
+
+-- A position across the frame, in hundredths of a millimetre.
+abbrev pub acrossUnits : Float → ℕ
+acrossUnits x = nearestOf x 5000
 
 -- The start of panel k, at the lower left corner of its frame: five to a row, 56 mm apart and 60.5 mm below each other.
 unfoldable pub placeText : ℕ → List ℕ

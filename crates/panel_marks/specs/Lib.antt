@@ -1,2 +1,2 @@
 -- The marks on a panel.
-pub mod Rules
+pub mod Marks

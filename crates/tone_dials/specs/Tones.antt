@@ -1,5 +1,5 @@
--- THE DIALS OF THE LOW-PASS FILTER AND OF OSCILLATOR 1, from a reading of the bytes: docs/SPECIFICATION.md, "The page". a reads the older program, which is the same one where there is none, and b the
--- program. Definitions only.
+-- THE DIALS OF THE LOW-PASS FILTER AND OF OSCILLATOR 1, from a reading of the bytes: docs/SPECIFICATION.md, "The page".
+-- a reads the older program, which is the same one where there is none, and b the program. Definitions only.
 use mathlib.Core.List.{List, _++_}
 use Prim.Native.Nat.{ℕ}
 use Rattle.text.specs.Text.{ascii}

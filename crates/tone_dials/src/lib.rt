@@ -1,4 +1,5 @@
-// The lines of the low-pass filter and of oscillator 1 that say what to dial in. Without an older program both blocks are the same.
+// The lines of the low-pass filter and of oscillator 1 that say what to dial in. Without an older program both blocks
+// are the same.
 ghost use Rattle.text.specs.Text.{Puts};
 ghost use Rattle.code_bytes.specs.Bytes.{byteAt};
 ghost use Rattle.tone_dials.specs.Tones.{lowPassDials, oscillatorDials};

@@ -8,10 +8,9 @@ use Rattle.page.proofs.put_body.Tie as tie
 returns : tie.Need-returns
 unfolding bodyText
 returns c =
-    c .before .before .before .before .before .before .before .before .before .before .put-panels .ensures ⨾
-    c .before .before .before .before .before .before .put-arpeggio .ensures ⨾
-    c .before .before .put-foot .ensures
+    c .before .before .before .before .before .before .put-panels .ensures ⨾
+    c .before .before .end-page .ensures
 
 pub put-body-spec : {M : Type 1} → statement M
 put-body-spec = tie.close
-    (tie.spec (λ c κs. search needs) (λ c κs. search needs) (λ c κs. search needs) (λ c. search needs) returns)
+    (tie.spec (λ c κs. search needs) (λ c κs. search needs) (λ c. search needs) returns)

@@ -7,7 +7,7 @@ use borrow.Author.Needs.{needs}
 use lib.ListN.{length}
 use Rattle.text.specs.Text.{Puts}
 use Rattle.text.proofs.Writing.{_⨾_, puts-none}
-use Rattle.panel_marks.specs.Rules.{rulesText, marksText}
+use Rattle.panel_marks.specs.Marks.{rulesText, marksText}
 use Rattle.panel_marks.proofs.put_marks.Statement.{statement}
 use Rattle.panel_marks.proofs.put_marks.Tie as tie
 

@@ -1,9 +1,9 @@
 -- `put_mark` writes `markText`. Assumes nothing.
 use Rattle.text.proofs.Writing.{_⨾_}
-use Rattle.panel_marks.specs.Rules.{markText}
+use Rattle.mark_rules.specs.Rules.{markText}
 use borrow.Author.Needs.{needs}
-use Rattle.panel_marks.proofs.put_mark.Statement.{statement}
-use Rattle.panel_marks.proofs.put_mark.Tie as tie
+use Rattle.mark_rules.proofs.put_mark.Statement.{statement}
+use Rattle.mark_rules.proofs.put_mark.Tie as tie
 
 returns : tie.Need-returns
 unfolding markText

@@ -1,10 +1,10 @@
 -- `put_label` writes `labelText`. Assumes nothing.
 use mathlib.Core.Path.{refl}
 use Rattle.text.proofs.Writing.{_⨾_}
-use Rattle.panel_marks.specs.Rules.{labelText}
+use Rattle.mark_rules.specs.Rules.{labelText}
 use borrow.Author.Needs.{needs}
-use Rattle.panel_marks.proofs.put_label.Statement.{statement}
-use Rattle.panel_marks.proofs.put_label.Tie as tie
+use Rattle.mark_rules.proofs.put_label.Statement.{statement}
+use Rattle.mark_rules.proofs.put_label.Tie as tie
 
 returns : tie.Need-returns
 unfolding labelText

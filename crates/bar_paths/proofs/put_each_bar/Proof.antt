@@ -7,9 +7,9 @@ use borrow.Author.Needs.{needs}
 use lib.ListN.{length}
 use Rattle.text.specs.Text.{Puts}
 use Rattle.text.proofs.Writing.{_⨾_, puts-none}
-use Rattle.panel_bars.specs.Bars.{someBars}
-use Rattle.panel_bars.proofs.put_each_bar.Statement.{statement}
-use Rattle.panel_bars.proofs.put_each_bar.Tie as tie
+use Rattle.bar_paths.specs.Paths.{someBars}
+use Rattle.bar_paths.proofs.put_each_bar.Statement.{statement}
+use Rattle.bar_paths.proofs.put_each_bar.Tie as tie
 
 abbrev Inv-loop : tie.InvT-loop
 Inv-loop out₀ at start up bars count next₀ i₀ out next i = (i ≤ count) × (count ≤ 4) × (length out ≡ length out₀) × Puts out₀ at (someBars start up bars i) out next

@@ -1,10 +1,10 @@
 -- `put_rule` writes `ruleText`. Assumes nothing.
 use mathlib.Core.Path.{refl}
 use Rattle.text.proofs.Writing.{_⨾_}
-use Rattle.panel_marks.specs.Rules.{ruleText}
+use Rattle.mark_rules.specs.Rules.{ruleText}
 use borrow.Author.Needs.{needs}
-use Rattle.panel_marks.proofs.put_rule.Statement.{statement}
-use Rattle.panel_marks.proofs.put_rule.Tie as tie
+use Rattle.mark_rules.proofs.put_rule.Statement.{statement}
+use Rattle.mark_rules.proofs.put_rule.Tie as tie
 
 returns : tie.Need-returns
 unfolding ruleText

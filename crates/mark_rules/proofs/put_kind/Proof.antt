@@ -1,7 +1,7 @@
 -- `put_kind` writes `kindText`: a word by the number of the kind. Assumes nothing.
 use borrow.Author.Needs.{needs}
-use Rattle.panel_marks.proofs.put_kind.Statement.{statement}
-use Rattle.panel_marks.proofs.put_kind.Tie as tie
+use Rattle.mark_rules.proofs.put_kind.Statement.{statement}
+use Rattle.mark_rules.proofs.put_kind.Tie as tie
 
 pub put-kind-spec : {M : Type 1} → statement M
 put-kind-spec =

@@ -1,0 +1,2 @@
+-- The paths of bars.
+pub mod Paths

@@ -1,0 +1,2 @@
+-- A mark on a panel.
+pub mod Rules

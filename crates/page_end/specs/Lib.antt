@@ -1,0 +1,2 @@
+-- What follows the codes' panels.
+pub mod End
