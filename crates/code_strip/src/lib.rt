@@ -3,6 +3,7 @@ ghost use mathlib.Core.Path.{_≡_};
 ghost use Prim.Native.Nat.{_≤_};
 ghost use lib.ListN.{length};
 ghost use Rattle.strip.specs.Strip.{filledOf, stepSum};
+ghost use Rattle.lfo_strip_once.specs.Once.{stepsOnce};
 ghost use Rattle.code_bytes.specs.Bytes.{byteAt, blockLength, lfoFirst};
 ghost use Rattle.code_settings.specs.Settings.{lfoAt};
 ghost use Rattle.code_shapes.specs.Shapes.{shapeOf};
@@ -22,6 +23,7 @@ use envelope_strip::fill_wide_envelope;
 use fade_strip::fill_fade;
 use generator::Shape;
 use lfo_strip::fill_lfo;
+use lfo_strip_once::fill_lfo_once;
 use settings::high_pass;
 use settings::low_pass_from;
 use settings::noise_from;
@@ -64,5 +66,24 @@ pub fn strip_at(block: &[u8], code: Code, out: &mut [f32]) -> u32
         Code::HighPass => fill_filter(high_pass(), out),
         Code::Oscillator(id) => fill_oscillator(oscillator_at(block, id), out),
         Code::Noise => fill_noise(noise_from(block[NOISE_LEVEL]), out),
+    }
+}
+
+// ---- the same strip with one walk along it, where there is a walk; all other codes as above. The steps are its own.
+fn strip_lfo_once(block: &[u8], id: LfoId, unipolar: bool, out: &mut [f32]) -> u32
+    requires { ⌜ (length (now block) ≡ blockLength) × (2 ≤ length (now out)) × (length (now out) ≤ 4096) ⌝ }
+    ensures { λ r. ⌜ (r ≡ stepsOnce (Shape.Lfo (lfoAt (byteAt (now (block .entry))) (lfoFirst id) unipolar)) (length (now (out .entry)))) × (now (out .exit) ≡ filledOf (Shape.Lfo (lfoAt (byteAt (now (block .entry))) (lfoFirst id) unipolar)) (length (now (out .entry))) (length (now (out .entry))) (now (out .entry))) ⌝ }
+{
+    fill_lfo_once(lfo_at(block, id, unipolar), out)
+}
+
+pub fn strip_once_at(block: &[u8], code: Code, out: &mut [f32]) -> u32
+    requires { ⌜ (length (now block) ≡ blockLength) × (2 ≤ length (now out)) × (length (now out) ≤ 4096) ⌝ }
+    ensures { λ r. ⌜ (r ≡ stepsOnce (shapeOf code (byteAt (now (block .entry)))) (length (now (out .entry)))) × (now (out .exit) ≡ filledOf (shapeOf code (byteAt (now (block .entry)))) (length (now (out .entry))) (length (now (out .entry))) (now (out .entry))) ⌝ }
+{
+    match code {
+        Code::Lfo(id) => strip_lfo_once(block, id, false, out),
+        Code::LfoUnipolar(id) => strip_lfo_once(block, id, true, out),
+        _ => strip_at(block, code, out),
     }
 }

@@ -14,7 +14,7 @@ use strip::last_of;
 use strip::sample_position;
 
 // An LFO without slew, and one with.
-fn fill_unslewed(l: Lfo, out: &mut [f32]) -> u32
+pub fn fill_unslewed(l: Lfo, out: &mut [f32]) -> u32
     requires { ⌜ le (l .slew) zero₃₂ ≡ true ⌝ }
     requires { ⌜ (2 ≤ length (now out)) × (length (now out) ≤ 4096) ⌝ }
     ensures { λ r. ⌜ (r ≡ stepSum (Shape.Lfo l) (length (now (out .entry))) (length (now (out .entry)))) × (now (out .exit) ≡ filledOf (Shape.Lfo l) (length (now (out .entry))) (length (now (out .entry))) (now (out .entry))) ⌝ }

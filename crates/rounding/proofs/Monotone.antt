@@ -1,11 +1,11 @@
 -- ROUNDING KEEPS THE ORDER of floats with no sign: finite ones from +0 up. A sum is at least each of its parts, a product by at most 1 is at most the
--- other factor, a quotient of x by t is at most q where x is at most q t, and a sum grows with its parts. All over the format, from `round-mono`
--- (lib.Ieee.Order). A float with no sign is `num` / `den` (lib.Ieee.Positive). Assumes nothing.
+-- other factor, a quotient of x by t is at most q where x is at most q t; a sum grows with its parts, a product with its first factor and a quotient
+-- with what is divided. All over the format, from `round-mono` (lib.Ieee.Order). A float with no sign is `num` / `den` (lib.Ieee.Positive). Assumes nothing.
 use mathlib.Core.Path.{_≡_, refl, sym, subst}
 use mathlib.Core.Logic.{_⊎_, inl, inr}
 use mathlib.Core.Bool.{Bool, true, false, not, cond, true≢false}
 use Prim.Native.Nat.{ℕ, zero, suc, _+_, _*_, _^_, _≤_, _<_}
-use native.Mathlib.Nat.{le-refl, le-of-eq, mul-pos, mul-le-mul-right}
+use native.Mathlib.Nat.{le-refl, le-of-eq, mul-pos, mul-comm, mul-le-mul-right}
 use native.Mathlib.Omega.{arith}
 use lib.IntN.{ℤ, pos}
 use lib.Dec.{T, ltb, eqb, eqb·suc-zero, lt→ltb, ltb→lt}
@@ -256,3 +256,18 @@ pub div-unsigned : (f : Format) (x t hi : Float) → T (unsigned x) → T (posit
 div-unsigned f x t hi u p k h =
     let e = div-is f x t u p in
     subst (λ (z : Float). T (unsigned z)) (sym e) (round-unsigned f (num x * den t) (num t * den x) hi k (subst (λ (z : Float). T (le z hi)) e h))
+
+-- ---- A PRODUCT grows with its first factor, and a quotient with what is divided
+-- The roundings of a / c and a' / c', both times b / d.
+scaled-mono : (f : Format) (a c a' c' b d : ℕ) → 0 < c → 0 < c' → 0 < d → a * c' ≤ a' * c → T (le (round f false (a * b) (d * c)) (round f false (a' * b) (d * c')))
+scaled-mono f a c a' c' b d p q r h = round-mono f (a * b) (d * c) (a' * b) (d * c') (mul-pos r p) (mul-pos r q) (simp ring (omega (arith, simp ring at (mul-le-mul-right (b * d) h))))
+
+pub mul-mono : (f : Format) (x x' y : Float) → T (unsigned x) → T (unsigned x') → T (unsigned y) → T (le x x') → T (le (mul f x y) (mul f x' y))
+mul-mono f x x' y u u' v h =
+    rw (mul-is f x y u v, mul-is f x' y u' v, mul-comm (den x) (den y), mul-comm (den x') (den y))
+    (scaled-mono f (num x) (den x) (num x') (den x') (num y) (den y) (den-pos x) (den-pos x') (den-pos y) (le-cross x x' u u' h))
+
+pub div-mono : (f : Format) (x x' t : Float) → T (unsigned x) → T (unsigned x') → T (positive t) → T (le x x') → T (le (div f x t) (div f x' t))
+div-mono f x x' t u u' p h =
+    rw (div-is f x t u p, div-is f x' t u' p)
+    (scaled-mono f (num x) (den x) (num x') (den x') (den t) (num t) (den-pos x) (den-pos x') (positive-num t p) (le-cross x x' u u' h))

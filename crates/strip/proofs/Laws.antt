@@ -2,7 +2,7 @@
 use mathlib.Core.Path.{_≡_}
 use mathlib.Core.Bool.{Bool, true, false, cond}
 use mathlib.Core.List.{List}
-use Prim.Native.Nat.{ℕ, zero, suc, _+_, _*_, _≤_, _<_}
+use Prim.Native.Nat.{ℕ, zero, suc, _*_, _≤_, _<_}
 use native.Mathlib.Omega.{arith}
 use lib.ListN.{length, getD}
 use lib.Ieee.{Float, nan, le}
@@ -14,7 +14,8 @@ use Rattle.fade.specs.Formula.{fadeHeightOf}
 use Rattle.oscillator.specs.Formula.{oscillatorHeightOf}
 use Rattle.noise.specs.Formula.{noiseHeightOf}
 use Rattle.filter.specs.Formula.{filterHeightOf}
-use Rattle.walk.specs.Formula.{placeOf, fullFrom, fullSteps, walkedOf}
+use Rattle.walk.specs.Formula.{walkedOf}
+use Rattle.walk.proofs.Onward.{full-steps-small}
 use Rattle.lfo.specs.Formula.{lfoHeightOf}
 use Rattle.generator.specs.declared.Shape.{Shape}
 use Rattle.generator.specs.declared.Shape.the-variants.{Envelope as AnEnvelope, Fade as AFade, Lfo as AnLfo, Filter as AFilter, Oscillator as AnOscillator, Noise as ANoise}
@@ -23,20 +24,11 @@ use Rattle.strip.specs.Strip.{samplePosition, sampleOf, filledOf, stepSu
 use Rattle.lists.proofs.Written.{written-length, written-at}
 
 -- ---- the steps of one height, whatever the settings and the position
-full-at-most : (phase : Float) (n k : ℕ) → fullFrom phase n k ≤ n + k
-unfolding fullFrom
-full-at-most phase zero k = omega arith
-full-at-most phase (suc n) k = go (le phase (placeOf (suc k))) (full-at-most phase n (suc k))
-  where
-    go : (b : Bool) → fullFrom phase n (suc k) ≤ n + suc k → cond b k (fullFrom phase n (suc k)) ≤ suc n + k
-    go true h = omega arith
-    go false h = omega arith
-
 pub height-steps : (s : Shape) (t : Float) → heightOf s t .steps ≤ 65535
-unfolding heightOf envelopeHeightOf fadeHeightOf filterHeightOf oscillatorHeightOf noiseHeightOf drawnOf lfoHeightOf walkedOf fullSteps
+unfolding heightOf envelopeHeightOf fadeHeightOf filterHeightOf oscillatorHeightOf noiseHeightOf drawnOf lfoHeightOf walkedOf
 height-steps (AnEnvelope e) t = omega arith
 height-steps (AFade f) t = omega arith
-height-steps (AnLfo l) t = go (le (l .slew) zero₃₂) _ _ (omega arith) (omega (arith, full-at-most (positionOf t ⊗ l .turns) 65534 0))
+height-steps (AnLfo l) t = go (le (l .slew) zero₃₂) _ _ (omega arith) (omega (arith, full-steps-small (positionOf t ⊗ l .turns)))
   where
     go : (b : Bool) (u v : Height) → u .steps ≤ 65535 → v .steps ≤ 65535 → cond b u v .steps ≤ 65535
     go true u v h k = h

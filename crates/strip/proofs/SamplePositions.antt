@@ -23,13 +23,13 @@ module _ (i : ℕ) (h : i ≤ 4096) where
   small : i ≤ 16777216
   small = omega arith
 
-  whole-unsigned : T (unsigned (ofInt binary32 (pos i)))
+  pub whole-unsigned : T (unsigned (ofInt binary32 (pos i)))
   whole-unsigned = of-value (ofInt binary32 (pos i)) i 1 (of-int (pos i) small)
 
-  whole-positive : 0 < i → T (positive (ofInt binary32 (pos i)))
+  pub whole-positive : 0 < i → T (positive (ofInt binary32 (pos i)))
   whole-positive p = positive-of-value (ofInt binary32 (pos i)) i 1 (of-int (pos i) small) p
 
-whole-le : (i j : ℕ) → i ≤ j → T (le (ofInt binary32 (pos i)) (ofInt binary32 (pos j)))
+pub whole-le : (i j : ℕ) → i ≤ j → T (le (ofInt binary32 (pos i)) (ofInt binary32 (pos j)))
 unfolding ofInt
 whole-le i j h = round-mono binary32 i 1 j 1 (lit< tt) (lit< tt) (omega arith)
 
@@ -46,7 +46,7 @@ module _ (last : ℕ) (some : 0 < last) (h : last ≤ 4096) (i : ℕ) (k : i ≤
       core : (a b : ℕ) → a ≤ b → a * 1 ≤ 1 * b
       core a b h = omega arith
 
-  part-unsigned : T (unsigned (partOf i last))
+  pub part-unsigned : T (unsigned (partOf i last))
   unfolding ofBits
   part-unsigned = div-unsigned binary32 (ofInt binary32 (pos i)) (ofInt binary32 (pos last)) one₃₂ (whole-unsigned i (omega arith)) (whole-positive last h some) tt part-to-one
 

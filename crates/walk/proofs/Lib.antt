@@ -1,5 +1,5 @@
--- The slew walk: the loop's count, the positions, the steps; a step's cost and the whole walk's, and the height's distance.
-pub mod Counts
+-- The slew walk: a walk on its way, the positions, the steps; a step's cost and the whole walk's, and the height's distance.
+pub mod Onward
 pub mod Places
 pub mod Steps
 pub mod HeldStep

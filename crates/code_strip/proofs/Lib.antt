@@ -1,0 +1,2 @@
+-- Codes that are not walked.
+pub mod Unwalked

@@ -1,0 +1,2 @@
+-- The steps of one walk along a strip.
+pub mod Once
