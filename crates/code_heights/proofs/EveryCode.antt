@@ -51,7 +51,7 @@ slew-off zero l = slew-zero
 slew-off (suc n) l = rw (ne-eqb (suc n) 0 (λ e. omega arith)) (is-false (le (byteOf (suc n)) zero₃₂) (slew-above (suc n) (omega arith) l))
 
 -- so a code's walk and its bound are its shape's
-code-slewed : (c : Code) (b : ℕ → ℕ) → ((n : ℕ) → b n < 256) → slewed (shapeOf c b) ≡ slewedCode c b
+pub code-slewed : (c : Code) (b : ℕ → ℕ) → ((n : ℕ) → b n < 256) → slewed (shapeOf c b) ≡ slewedCode c b
 unfolding slewed shapeOf lfoAt lfoOf slewedCode
 code-slewed (Envelope id) b h = refl
 code-slewed (Lfo id) b h = simp (slew-off (b (lfoFirst id + slewPlace)) (h (lfoFirst id + slewPlace)))

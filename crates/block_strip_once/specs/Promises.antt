@@ -1,0 +1,48 @@
+-- WHAT IS PROMISED OF A STRIP WITH ONE WALK ALONG IT: docs/SPECIFICATION.md, "Strips". Definitions only.
+use mathlib.Core.Path.{_≡_}
+use mathlib.Core.Bool.{not}
+use mathlib.Core.List.{List}
+use Prim.Native.Nat.{ℕ, suc, _+_, _-_, _≤_}
+use lib.Dec.{T}
+use lib.ListN.{length}
+use lib.Ieee.{Float}
+use Rattle.exact.specs.Binary32.{bits, one₃₂}
+use Rattle.walk.specs.Steps.{Steps}
+use Rattle.generator.specs.declared.Scale.the-variants.{Turns}
+use Rattle.generator.specs.Generator.{scaleOf}
+use Rattle.generator.specs.Heights.{walkPhase}
+use Rattle.strip.specs.Strip.{samplePosition, lengthFits}
+use Rattle.refusals.specs.Refusals.{accepted, checkBlock, checkCode, checkLength}
+use Rattle.codes.specs.declared.Code.{Code}
+use Rattle.codes.specs.declared.CodeRead.the-variants.{Known}
+use Rattle.codes.specs.Codes.{codeOf}
+use Rattle.code_bytes.specs.Bytes.{byteAt, blockLength}
+use Rattle.code_shapes.specs.Shapes.{shapeOf}
+use Rattle.code_heights.specs.Promises.{slewedCode}
+use Rattle.block.specs.Refusals.{chosenOf}
+use Rattle.block_strip.specs.declared.StripAnswer.{StripAnswer}
+use Rattle.block_strip.specs.declared.StripAnswer.the-variants.{Filled as AStrip}
+use Rattle.block_strip.specs.Strips.{stripAnswer, stripRefusal}
+use Rattle.block_strip.specs.Promises.{StripAnswered}
+use Rattle.block_strip_once.specs.Strips.{stripOnceAnswer}
+
+-- THE STEPS of one walk along n samples of a code. Where the code is walked: the full steps that end short of the last sample's phase, to which a walk of its own
+-- takes one more, and one for each sample; of one turn 191 are full, of six 671. Elsewhere none.
+pub record WalkedOnce (c : Code) (b : ℕ → ℕ) (n : ℕ) (r : StripAnswer) : Type 0 where
+  pub steps : ℕ
+  pub answer : r ≡ AStrip steps
+  pub full : ℕ
+  pub walked : T (slewedCode c b) → steps ≡ full + n
+  pub last : T (slewedCode c b) → Steps (walkPhase (shapeOf c b) (samplePosition n (n - 1))) (suc full)
+  pub one : T (slewedCode c b) → scaleOf (shapeOf c b) ≡ Turns one₃₂ → full ≡ 191
+  pub six : T (slewedCode c b) → scaleOf (shapeOf c b) ≡ Turns (bits 0x40c0_0000) → full ≡ 671
+  pub none : T (not (slewedCode c b)) → steps ≡ 0
+  pub most : steps ≤ 672 + n
+
+-- The answer is that of the formula. The strip holds what the plain engine leaves, beside whatever that one answers, and has all that is promised of it; the refusals
+-- are the plain engine's. A block of 242 bytes, a known code and a length from 2 to 4,096 are given the steps above.
+pub record StripOnceAnswered (block : List ℕ) (code : ℕ) (before after : List Float) (r : StripAnswer) : Type 0 where
+  pub equation : r ≡ stripOnceAnswer (chosenOf block code) (length before)
+  pub plain : StripAnswered block code before after (stripAnswer (chosenOf block code) (length before))
+  pub refusal : stripRefusal r ≡ checkBlock (length block) (checkCode code (checkLength (length before) accepted))
+  pub given : (c : Code) → codeOf code ≡ Known c → length block ≡ blockLength → T (lengthFits (length before)) → WalkedOnce c (byteAt block) (length before) r
