@@ -79,6 +79,7 @@ pub struct AnchoredResult {
 unsafe extern "C" {
     pub fn juvrada_height(block: *const u8, block_len: usize, code: u32, t: f32) -> HeightResult;
     pub fn juvrada_strip(block: *const u8, block_len: usize, code: u32, out: *mut f32, out_len: usize) -> StripResult;
+    pub fn juvrada_strip_once(block: *const u8, block_len: usize, code: u32, out: *mut f32, out_len: usize) -> StripResult;
     pub fn juvrada_marks(block: *const u8, block_len: usize, code: u32, at: *mut f32, kind: *mut u8) -> CountResult;
     pub fn juvrada_rest(block: *const u8, block_len: usize, code: u32) -> RestResult;
     pub fn juvrada_scale(block: *const u8, block_len: usize, code: u32) -> ScaleResult;

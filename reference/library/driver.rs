@@ -2,7 +2,7 @@
 //! doesn't have is restated here: steps (beside its walk, in answers.rs), strips, captions, bars and refusals. Every difference is printed with its input.
 
 use crate::answers::{
-    self, POSITIONS, READ, Setting, Taps, block, build, kind, neighbours, place, scale, slewed, steps_of,
+    self, POSITIONS, READ, Setting, Taps, block, build, kind, neighbours, once_steps, place, scale, slewed, steps_of,
 };
 use crate::generator::{GATES_DRAWN, Generator, arpeggiator_gates};
 use crate::juvrada::{self, BLOCK, CountResult, MAX_MARKS, MAX_SETTINGS, MAX_STRIP, MIN_STRIP, StripResult};
@@ -255,8 +255,26 @@ impl Work<'_> {
                 )
             });
         }
+        self.strip_once(code, program, generator, lent.first(n));
         self.count(Counted::Strips, 1);
         self.count(Counted::Samples, n);
+    }
+
+    /// One walk along the strip leaves what the plain engine left. Its steps are its own.
+    fn strip_once(&mut self, code: usize, program: &Program, generator: &Generator, plain: &[f32]) {
+        let n = plain.len();
+        let mut lent = Lent::new(n);
+        let ours = unsafe { juvrada::juvrada_strip_once(program.0.as_ptr(), BLOCK, code as u32, lent.pointer(), n) };
+        let steps = once_steps(code, program, generator, n);
+        let alike = plain.iter().zip(lent.first(n)).all(|(a, b)| a.to_bits() == b.to_bits());
+        if ours != (StripResult { refusal: 0, steps }) || !alike || !lent.kept_from(n) {
+            self.differ(|| {
+                format!(
+                    "strip of {n} by one walk, of {}: {ours:?}, the steps are {steps}; as the plain engine's: {alike}",
+                    shown(code, program)
+                )
+            });
+        }
     }
 
     fn captions(&mut self, code: usize, program: &Program, generator: &Generator, n: usize) {
@@ -390,6 +408,14 @@ impl Work<'_> {
                     steps: 0,
                 } && out.kept_from(0),
                 format!("strip {r:?}"),
+            );
+            let r = unsafe { juvrada::juvrada_strip_once(at, len, code, out.pointer(), n) };
+            see(
+                r == StripResult {
+                    refusal: strip,
+                    steps: 0,
+                } && out.kept_from(0),
+                format!("strip by one walk {r:?}"),
             );
             let mut out = Lent::new(n);
             let r = unsafe { juvrada::juvrada_captions(at, len, code, out.pointer(), n) };

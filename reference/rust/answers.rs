@@ -173,6 +173,12 @@ pub fn steps_of(code: usize, program: &Program, generator: &Generator, t: f32) -
     }
 }
 
+/// The steps of one walk along a strip of n samples: the full ones short of the last phase, which is one turn or six, and a cut one for each sample.
+pub fn once_steps(code: usize, program: &Program, generator: &Generator, n: usize) -> u32 {
+    let full = if scale(generator.scale()).1 == 1.0 { 191 } else { 671 };
+    if slewed(code, program) { full + n as u32 } else { 0 }
+}
+
 /// Positions of every kind.
 pub const POSITIONS: [u32; 31] = [
     0x7fc0_0000, // NaN, of either sign, and one that signals

@@ -54,6 +54,31 @@ static void strips(void) {
     EXPECT(r.refusal == JUVRADA_BAD_STRIP && r.steps == 0 && out[0] == 9.0f);
 }
 
+/* One walk along the strip: the heights of the plain engine, bit for bit, and its own steps. */
+static void strips_once(void) {
+    static float plain[JUVRADA_MAX_STRIP], once[JUVRADA_MAX_STRIP + 1];
+    for (unsigned shape = 0; shape < 7; shape++) {
+        block[2] = shape;
+        block[6] = 200;
+        once[4000] = 9.0f;
+        juvrada_strip_result p = juvrada_strip(block, sizeof block, 5, plain, 4000);
+        juvrada_strip_result r = juvrada_strip_once(block, sizeof block, 5, once, 4000);
+        EXPECT(p.refusal == JUVRADA_ACCEPTED && r.refusal == JUVRADA_ACCEPTED && r.steps == (shape < 5 ? 191 : 671) + 4000);
+        EXPECT(memcmp(once, plain, 4000 * sizeof *plain) == 0 && once[4000] == 9.0f);
+    }
+    block[2] = block[6] = 0;
+    once[0] = 9.0f;
+    juvrada_strip_result r = juvrada_strip_once(block, sizeof block, 3, once, 2);
+    EXPECT(r.refusal == JUVRADA_ACCEPTED && r.steps == 0 && once[0] == 0.5f);
+    once[0] = 9.0f;
+    r = juvrada_strip_once(block, 241, 14, once, 1);
+    EXPECT(r.refusal == JUVRADA_BAD_BLOCK && r.steps == 0 && once[0] == 9.0f);
+    r = juvrada_strip_once(block, sizeof block, 259, once, 1);
+    EXPECT(r.refusal == JUVRADA_BAD_CODE && r.steps == 0 && once[0] == 9.0f);
+    r = juvrada_strip_once(block, sizeof block, 3, once, JUVRADA_MAX_STRIP + 1);
+    EXPECT(r.refusal == JUVRADA_BAD_STRIP && r.steps == 0 && once[0] == 9.0f);
+}
+
 static void marks(void) {
     float at[JUVRADA_MAX_MARKS] = {9.0f, 9.0f, 9.0f, 9.0f, 9.0f, 9.0f};
     uint8_t kind[JUVRADA_MAX_MARKS] = {9, 9, 9, 9, 9, 9};
@@ -128,6 +153,7 @@ static void taps(void) {
 int main(void) {
     heights();
     strips();
+    strips_once();
     marks();
     others();
     settings();

@@ -28,11 +28,22 @@ fn main() {
     let mut strip = [9.0; 6];
     let r = unsafe { juvrada_strip(block.as_ptr(), BLOCK, 3, strip.as_mut_ptr(), 5) };
     assert_eq!((r.refusal, r.steps, strip), (ACCEPTED, 0, [0.0, 0.5, 1.0, 0.5, 0.0, 9.0]));
+
+    // The same with slew: one walk along the strip has steps of its own.
+    block[6] = 1;
+    let mut once = [9.0; 6];
+    let r = unsafe { juvrada_strip(block.as_ptr(), BLOCK, 3, strip.as_mut_ptr(), 5) };
+    assert_eq!((r.refusal, r.steps), (ACCEPTED, 96 + 120 + 144 + 168 + 192));
+    let r = unsafe { juvrada_strip_once(block.as_ptr(), BLOCK, 3, once.as_mut_ptr(), 5) };
+    assert_eq!((r.refusal, r.steps, once), (ACCEPTED, 191 + 5, strip));
     block[2] = 0;
+    block[6] = 0;
     let mut long = vec![9.0; MAX_STRIP + 1];
-    let r = unsafe { juvrada_strip(block.as_ptr(), BLOCK, 3, long.as_mut_ptr(), MAX_STRIP + 1) };
-    assert_eq!((r.refusal, r.steps), (BAD_STRIP, 0));
-    assert!(long.iter().all(|&x| x == 9.0));
+    for strip in [juvrada_strip, juvrada_strip_once] {
+        let r = unsafe { strip(block.as_ptr(), BLOCK, 3, long.as_mut_ptr(), MAX_STRIP + 1) };
+        assert_eq!((r.refusal, r.steps), (BAD_STRIP, 0));
+        assert!(long.iter().all(|&x| x == 9.0));
+    }
 
     let (mut at, mut kind) = ([9.0; MAX_MARKS], [9; MAX_MARKS]);
     let r = unsafe { juvrada_marks(block.as_ptr(), BLOCK, 9, at.as_mut_ptr(), kind.as_mut_ptr()) };

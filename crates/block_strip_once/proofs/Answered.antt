@@ -73,7 +73,7 @@ from-one : (k : ℕ) → 1 ≤ k → k ≡ suc (k - 1)
 from-one k h = omega arith
 
 -- a walked shape is an LFO, and its scale its turns
-by-turns : (s : Shape) (n j : ℕ) (x : Float) → ((l : Lfo) → le (l .slew) zero₃₂ ≡ false → l .turns ≡ x → sampleOf (AnLfo l) n (n - 1) .steps ≡ j) → T (slewed s) → scaleOf s ≡ Turns x → sampleOf s n (n - 1) .steps ≡ j
+by-turns : (s : Shape) (n j : ℕ) (x : Float) → ((l : Lfo) → le (l .slew) zero₃₂ ≡ false → l .turns ≡ x → stepsOnce (AnLfo l) n ≡ j) → T (slewed s) → scaleOf s ≡ Turns x → stepsOnce s n ≡ j
 unfolding slewed
 by-turns (AnEnvelope e) n j x f w h = absurd w
 by-turns (AFade e) n j x f w h = absurd w
@@ -92,8 +92,8 @@ walked-once c b h n t r e =
       full = k - 1;
       walked = λ w. once-walked k n (p .walked w .some);
       last = λ w. subst (λ (m : ℕ). Steps (walkPhase s (samplePosition n (n - 1))) m) (from-one k (p .walked w .some)) (p .walked w);
-      one = λ w u. ap (λ (m : ℕ). m - 1) (by-turns s n 192 one₃₂ (λ l v x. one-turn l n v (fit .0) (fit .1) x) (subst T (sym (code-slewed c b h)) w) u);
-      six = λ w u. ap (λ (m : ℕ). m - 1) (by-turns s n 672 (bits 0x40c0_0000) (λ l v x. six-turns l n v (fit .0) (fit .1) x) (subst T (sym (code-slewed c b h)) w) u);
+      one = λ w u. by-turns s n (191 + n) one₃₂ (λ l v x. one-turn l n v (fit .0) (fit .1) x) (subst T (sym (code-slewed c b h)) w) u;
+      six = λ w u. by-turns s n (671 + n) (bits 0x40c0_0000) (λ l v x. six-turns l n v (fit .0) (fit .1) x) (subst T (sym (code-slewed c b h)) w) u;
       none = λ v. ap (λ (m : ℕ). onceFrom m n) (p .none v) ∙ unfold onceFrom in refl;
       most = once-most k n (few (slewedCode c b) (λ w. p .walked w .most) (p .none));
     }

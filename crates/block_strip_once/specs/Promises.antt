@@ -27,15 +27,15 @@ use Rattle.block_strip.specs.Promises.{StripAnswered}
 use Rattle.block_strip_once.specs.Strips.{stripOnceAnswer}
 
 -- THE STEPS of one walk along n samples of a code. Where the code is walked: the full steps that end short of the last sample's phase, to which a walk of its own
--- takes one more, and one for each sample; of one turn 191 are full, of six 671. Elsewhere none.
+-- takes one more, and one for each sample: 191 + n of one turn, 671 + n of six. Elsewhere none.
 pub record WalkedOnce (c : Code) (b : ℕ → ℕ) (n : ℕ) (r : StripAnswer) : Type 0 where
   pub steps : ℕ
   pub answer : r ≡ AStrip steps
   pub full : ℕ
   pub walked : T (slewedCode c b) → steps ≡ full + n
   pub last : T (slewedCode c b) → Steps (walkPhase (shapeOf c b) (samplePosition n (n - 1))) (suc full)
-  pub one : T (slewedCode c b) → scaleOf (shapeOf c b) ≡ Turns one₃₂ → full ≡ 191
-  pub six : T (slewedCode c b) → scaleOf (shapeOf c b) ≡ Turns (bits 0x40c0_0000) → full ≡ 671
+  pub one : T (slewedCode c b) → scaleOf (shapeOf c b) ≡ Turns one₃₂ → steps ≡ 191 + n
+  pub six : T (slewedCode c b) → scaleOf (shapeOf c b) ≡ Turns (bits 0x40c0_0000) → steps ≡ 671 + n
   pub none : T (not (slewedCode c b)) → steps ≡ 0
   pub most : steps ≤ 672 + n
 

@@ -1,6 +1,7 @@
-// Strips for C callers: what crate block_strip answers, as numbers.
+// Strips for C callers: what crates block_strip and block_strip_once answer, as numbers.
 ghost use mathlib.Core.Path.{_≡_};
 ghost use Rattle.block_strip.specs.Promises.{StripAnswered};
+ghost use Rattle.block_strip_once.specs.Promises.{StripOnceAnswered};
 ghost use Rattle.c_results.specs.Promises.{Returned};
 ghost use Rattle.c_strip.specs.Results.{stripResult};
 use block_strip::StripAnswer;
@@ -23,4 +24,10 @@ pub fn strip(block: &[u8], code: u32, out: &mut [f32]) -> StripResult
     ensures { λ r. ⌜ Returned (λ a. r ≡ stripResult a) (StripAnswered (now (block .entry)) code (now (out .entry)) (now (out .exit))) ⌝ }
 {
     strip_result(block_strip::strip(block, code, out))
+}
+
+pub fn strip_once(block: &[u8], code: u32, out: &mut [f32]) -> StripResult
+    ensures { λ r. ⌜ Returned (λ a. r ≡ stripResult a) (StripOnceAnswered (now (block .entry)) code (now (out .entry)) (now (out .exit))) ⌝ }
+{
+    strip_result(block_strip_once::strip_once(block, code, out))
 }

@@ -64,7 +64,7 @@ fn print_rows(heights: &[f32]) {
 fn print_strip(block: &[u8], code: u32, heights: &mut [f32], n: usize)
     requires { ⌜ n ≤ length (now heights) ⌝ }
 {
-    let answer = block_strip::strip(block, code, &mut heights[..n]);
+    let answer = block_strip_once::strip_once(block, code, &mut heights[..n]);
     match answer {
         StripAnswer::Filled(_) => print_rows(&heights[..n]),
         StripAnswer::Refused(r) => refuse(r),

@@ -5,6 +5,7 @@ ghost use Rattle.taps.specs.Promises.{TapsAnswered};
 ghost use Rattle.refusals.specs.Refusals.{answerRefusal};
 ghost use Rattle.block.specs.Promises.{HeightAnswered};
 ghost use Rattle.block_strip.specs.Promises.{StripAnswered};
+ghost use Rattle.block_strip_once.specs.Promises.{StripOnceAnswered};
 ghost use Rattle.block_captions.specs.Promises.{CaptionsAnswered};
 ghost use Rattle.block_choice.specs.Promises.{Answered};
 ghost use Rattle.block_settings.specs.Answers.{settingsAnswer, settingsRefusal};
@@ -44,6 +45,13 @@ pub extern "C" fn juvrada_strip(block: &[u8], code: u32, out: &mut [f32]) -> Str
     ensures { λ r. ⌜ Returned (λ a. r ≡ stripResult a) (StripAnswered (now (block .entry)) code (now (out .entry)) (now (out .exit))) ⌝ }
 {
     c_strip::strip(block, code, out)
+}
+
+#[no_mangle]
+pub extern "C" fn juvrada_strip_once(block: &[u8], code: u32, out: &mut [f32]) -> StripResult
+    ensures { λ r. ⌜ Returned (λ a. r ≡ stripResult a) (StripOnceAnswered (now (block .entry)) code (now (out .entry)) (now (out .exit))) ⌝ }
+{
+    c_strip::strip_once(block, code, out)
 }
 
 #[no_mangle]

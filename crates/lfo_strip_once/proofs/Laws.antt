@@ -1,7 +1,7 @@
 -- THE STEPS OF ONE WALK: none where no height takes steps, as the plain engine says. As numbers: the last sample lies at 1, so that its phase is the number of turns; 191 full steps fall short of 1 turn, and 671 of 6. Assumes nothing.
 use mathlib.Core.Path.{_≡_, refl, sym, ap, _∙_}
 use mathlib.Core.Bool.{Bool, true, false}
-use Prim.Native.Nat.{ℕ, suc, _-_, _≤_}
+use Prim.Native.Nat.{ℕ, suc, _+_, _-_, _≤_}
 use lib.Dec.{lit≤}
 use lib.Ieee.{Float, ofBits, ofInt, neg, add, mul, div, isNan, lt, le, eq}
 use Rattle.exact.specs.Binary32.{_⊗_, bits, zero₃₂, one₃₂}
@@ -48,10 +48,10 @@ module _ (l : Lfo) (n : ℕ) (s : le (l .slew) zero₃₂ ≡ false) (a : 2 ≤ 
   unfolding sampleOf heightOf lfoHeightOf walkedOf
   last-steps j h k e = simp (s, last-at-one n a b, e) (steps-to-place j h k)
 
-  pub one-turn : l .turns ≡ one₃₂ → sampleOf (AnLfo l) n (n - 1) .steps ≡ 192
-  unfolding placeOf stepOf positionOf clampOf isNan lt ofBits ofInt neg add mul div
-  one-turn e = last-steps 192 (lit≤ tt) (lit≤ tt) (ap (λ (t : Float). positionOf one₃₂ ⊗ t) e ∙ refl)
+  pub one-turn : l .turns ≡ one₃₂ → stepsOnce (AnLfo l) n ≡ 191 + n
+  unfolding stepsOnce onceFrom placeOf stepOf positionOf clampOf isNan lt ofBits ofInt neg add mul div
+  one-turn e = simp (last-steps 192 (lit≤ tt) (lit≤ tt) (ap (λ (t : Float). positionOf one₃₂ ⊗ t) e ∙ refl))
 
-  pub six-turns : l .turns ≡ bits 0x40c0_0000 → sampleOf (AnLfo l) n (n - 1) .steps ≡ 672
-  unfolding placeOf stepOf positionOf clampOf isNan lt ofBits ofInt neg add mul div
-  six-turns e = last-steps 672 (lit≤ tt) (lit≤ tt) (ap (λ (t : Float). positionOf one₃₂ ⊗ t) e ∙ refl)
+  pub six-turns : l .turns ≡ bits 0x40c0_0000 → stepsOnce (AnLfo l) n ≡ 671 + n
+  unfolding stepsOnce onceFrom placeOf stepOf positionOf clampOf isNan lt ofBits ofInt neg add mul div
+  six-turns e = simp (last-steps 672 (lit≤ tt) (lit≤ tt) (ap (λ (t : Float). positionOf one₃₂ ⊗ t) e ∙ refl))
