@@ -56,6 +56,10 @@ pub full-steps-small : (phase : Float) → fullSteps phase ≤ 65534
 unfolding fullSteps
 full-steps-small phase = full-at-most phase 65534 0
 
+pub full-on-small : (phase : Float) (k : ℕ) → k ≤ 65534 → fullOn phase k ≤ 65534
+unfolding fullOn
+full-on-small phase k h = let m = full-at-most phase (65534 - k) k in omega arith
+
 -- A step that reaches the phase is the last; the last of all is so too; any other leaves the rest to the next.
 pub on-reaches : (phase : Float) (k : ℕ) → le phase (placeOf (k + 1)) ≡ true → fullOn phase k ≡ k
 unfolding fullOn fullFrom

@@ -7,6 +7,7 @@ use native.Mathlib.Nat.{le-antisymm}
 use native.Mathlib.Omega.{arith}
 use borrow.Author.Needs.{needs}
 use Rattle.generator.specs.declared.Shape.the-variants.{Lfo as AnLfo}
+use Rattle.walk.proofs.Onward.{may-go, full-on-small}
 use Rattle.strip.proofs.SamplePositions.{sample-position}
 use Rattle.strip.proofs.Filling.{Filled, filled-none, filled-next, filled-whole}
 use Rattle.lfo_strip_once.proofs.AlongStrip.{behind, Standing, ready, walk-next, height-here, all-steps}
@@ -30,9 +31,7 @@ walk-on-requires c κs =
 cut-height-requires : tie.Need-cut-height-requires Inv-loop μ-loop
 cut-height-requires c κs =
     let l = c .before .before .before .before in
-    let start = l .before .before .before .before .before in
-    let limit = l .before .before .limit-of .ensures in
-    ready _ _ _ limit (walk-next (start .args .l) _ _ (l .before .before .before .last-of .ensures) (c .before .before .sample-position .ensures) (is-t (start .pre .0 .1)) (start .pre .1) (c .before .before .before .loop-test .taken) limit (l .loop .inv .1) (c .walk-on .ensures))
+    may-go _ _ _ (c .walk-on .ensures) (full-on-small _ _ (ready _ _ _ (l .before .before .limit-of .ensures) (l .loop .inv .1) .0))
 
 loop-again : tie.Need-loop-again Inv-loop μ-loop
 loop-again c =
