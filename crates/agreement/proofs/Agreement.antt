@@ -19,6 +19,7 @@ same-answers c x y code lx ly k h =
       settings = simp e;
       height = λ t. simp e;
       steps = λ n. simp e;
+      stepsOnce = λ n. simp e;
       strip = λ before. simp e;
       captioned = λ n. simp e;
       captions = λ before. simp e;
