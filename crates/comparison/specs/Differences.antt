@@ -4,8 +4,12 @@ use mathlib.Core.List.{List, [], _∷_, _++_}
 use Prim.Native.Nat.{ℕ, zero, suc, _+_}
 use lib.Dec.{eqb}
 use lib.ListN.{length}
+use lib.Ieee.{Float}
 use Rattle.text.specs.Text.{ascii, textsBelow}
 use Rattle.numerals.specs.Spelled.{decimalOf}
+use Rattle.generator.specs.declared.Shape.{Shape}
+use Rattle.generator.specs.Heights.{heightOf}
+use Rattle.strip.specs.Strip.{samplePosition}
 use Rattle.codes.specs.declared.Code.{Code}
 use Rattle.codes.specs.declared.CodeRead.{CodeRead}
 use Rattle.codes.specs.declared.CodeRead.the-variants.{Known, Above}
@@ -19,9 +23,17 @@ use Rattle.undrawn_count.specs.Count.{undrawnCount}
 use Rattle.undrawn_bytes.specs.Undrawn.{undrawnPart}
 use Rattle.comparison_bytes.specs.Changes.{sameBytes, changesText}
 use Rattle.largest_difference.specs.declared.Largest.{Largest as ALargest}
-use Rattle.largest_difference.specs.Largest.{comparedSamples, positionAt, largestOf}
+use Rattle.largest_difference.specs.Largest.{comparedSamples, largestOf}
 
 -- ---- a generator
+-- Where sample i of comparedSamples lies.
+abbrev pub positionAt : ℕ → Float
+positionAt i = samplePosition comparedSamples i
+
+-- The curve of a shape: its height at each sample.
+abbrev pub curveOf : Shape → ℕ → Float
+curveOf s i = heightOf s (positionAt i) .height
+
 -- How far the old curve and the new are apart, and where.
 unfoldable pub largestText : ALargest → List ℕ
 largestText l = ascii "different  largest difference " ++ ninePlaces (l .size) ++ ascii " at " ++ ninePlaces (positionAt (l .index)) ++ ascii "\n"
@@ -29,7 +41,7 @@ largestText l = ascii "different  largest difference " ++ ninePlaces (l .size) +
 -- Its name, and whether all bytes that it reads are the same; if not, how far apart the curves are, and a line for each byte that differs.
 unfoldable pub generatorText : Code → (ℕ → ℕ) → (ℕ → ℕ) → List ℕ
 generatorText c a b =
-    titleOf (codeNumber c) ++ cond (sameBytes (bytesOf c) a b) (ascii "same\n") (largestText (largestOf (shapeOf c a) (shapeOf c b) comparedSamples) ++ changesText (bytesOf c) a b)
+    titleOf (codeNumber c) ++ cond (sameBytes (bytesOf c) a b) (ascii "same\n") (largestText (largestOf (curveOf (shapeOf c a)) (curveOf (shapeOf c b)) comparedSamples) ++ changesText (bytesOf c) a b)
 
 unfoldable pub codeText : CodeRead → (ℕ → ℕ) → (ℕ → ℕ) → List ℕ
 codeText (Known c) a b = generatorText c a b

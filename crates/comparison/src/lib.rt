@@ -7,11 +7,10 @@ ghost use Rattle.codes.specs.Codes.{codeOf};
 ghost use Rattle.code_bytes.specs.Bytes.{byteAt, blockLength};
 ghost use Rattle.code_shapes.specs.Shapes.{shapeOf};
 ghost use Rattle.largest_difference.specs.Largest.{largestOf, comparedSamples};
-ghost use Rattle.comparison.specs.Differences.{largestText, generatorText, codeText, codesText, gateText, codeCount, codesCount, gateCount, namesText, countsText, programsText, differencesText};
+ghost use Rattle.comparison.specs.Differences.{curveOf, largestText, generatorText, codeText, codesText, gateText, codeCount, codesCount, gateCount, namesText, countsText, programsText, differencesText};
 use block::BLOCK;
-use builders::of_shape;
 use code_bytes::GATE_TIME;
-use code_shapes::shape_at;
+use code_strip::strip_once_at;
 use codes::CODES;
 use codes::Code;
 use codes::CodeRead;
@@ -22,8 +21,8 @@ use comparison_bytes::put_code_changes;
 use comparison_bytes::same;
 use comparison_bytes::same_bytes;
 use labels::put_title;
-use largest_difference::LAST;
 use largest_difference::Largest;
+use largest_difference::SAMPLES;
 use largest_difference::find_largest;
 use numerals::put_decimal;
 use program_name::put_name_in_line;
@@ -36,6 +35,9 @@ use undrawn_count::count_undrawn;
 // The byte of the gates.
 const GATE: [u8; 1] = [GATE_TIME as u8];
 
+// The number of the last sample at which two curves are held against each other.
+const LAST: u16 = (SAMPLES - 1) as u16;
+
 // ---- the lines of a generator
 fn put_largest(out: &mut [u8], at: usize, largest: Largest) -> usize
     ensures { λ r. ⌜ Puts (now (out .entry)) at (largestText largest) (now (out .exit)) r ⌝ }
@@ -47,12 +49,16 @@ fn put_largest(out: &mut [u8], at: usize, largest: Largest) -> usize
     put(out, next, b"\n")
 }
 
-// How far apart the curves of a code are.
+// How far apart the curves of a code are: both strips, an LFO's by one walk along it, and where they are farthest apart.
 fn largest_of(old: &[u8], new: &[u8], code: Code) -> Largest
     requires { ⌜ (length (now old) ≡ blockLength) × (length (now new) ≡ blockLength) ⌝ }
-    ensures { λ r. ⌜ r ≡ largestOf (shapeOf code (byteAt (now (old .entry)))) (shapeOf code (byteAt (now (new .entry)))) comparedSamples ⌝ }
+    ensures { λ r. ⌜ r ≡ largestOf (curveOf (shapeOf code (byteAt (now (old .entry))))) (curveOf (shapeOf code (byteAt (now (new .entry))))) comparedSamples ⌝ }
 {
-    find_largest(of_shape(shape_at(old, code)), of_shape(shape_at(new, code)))
+    let mut old_curve = [0.0f32; SAMPLES];
+    let mut new_curve = [0.0f32; SAMPLES];
+    strip_once_at(old, code, &mut old_curve);
+    strip_once_at(new, code, &mut new_curve);
+    find_largest(&old_curve, &new_curve)
 }
 
 fn put_code(out: &mut [u8], at: usize, old: &[u8], new: &[u8], code: Code) -> usize

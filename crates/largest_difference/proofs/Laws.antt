@@ -11,7 +11,6 @@ use Rattle.exact.specs.Value.{value}
 use Rattle.exact.specs.Binary32.{zero₃₂}
 use Rattle.exact.proofs.Defined.{value-defined}
 use Rattle.exact.proofs.Order.{AtMost, at-most-refl, at-most-trans, lt-at-most, nlt-at-most}
-use Rattle.generator.specs.declared.Shape.{Shape}
 use Rattle.largest_difference.specs.declared.Largest.{Largest as ALargest}
 use Rattle.largest_difference.specs.Largest.{differenceAt, largerOf, largestOf}
 
@@ -25,14 +24,14 @@ grown : (f : ℕ → Float) (i k : ℕ) (l : ALargest) (b : Bool) → T (finite 
 grown f i k l true F up down again c = ⊎-elim (λ e. rw e (at-most-refl (value-defined (f k) .1 F))) (λ q. at-most-trans (again q) (up tt)) c
 grown f i k l false F up down again c = ⊎-elim (λ e. rw e (down tt)) again c
 
-module _ (s t : Shape) where
-  pub attained : (k : ℕ) → (largestOf s t k .size ≡ zero₃₂) ⊎ (largestOf s t k .size ≡ differenceAt s t (largestOf s t k .index))
+module _ (a b : ℕ → Float) where
+  pub attained : (k : ℕ) → (largestOf a b k .size ≡ zero₃₂) ⊎ (largestOf a b k .size ≡ differenceAt a b (largestOf a b k .index))
   unfolding largestOf largerOf
   attained zero = inl refl
-  attained (suc k) = go (lt (largestOf s t k .size) (differenceAt s t k)) (attained k)
+  attained (suc k) = go (lt (largestOf a b k .size) (differenceAt a b k)) (attained k)
     where
-      go : (b : Bool) → (largestOf s t k .size ≡ zero₃₂) ⊎ (largestOf s t k .size ≡ differenceAt s t (largestOf s t k .index))
-          → (pick b (largestOf s t k) (differenceAt s t k) k .size ≡ zero₃₂) ⊎ (pick b (largestOf s t k) (differenceAt s t k) k .size ≡ differenceAt s t (pick b (largestOf s t k) (differenceAt s t k) k .index))
+      go : (t : Bool) → (largestOf a b k .size ≡ zero₃₂) ⊎ (largestOf a b k .size ≡ differenceAt a b (largestOf a b k .index))
+          → (pick t (largestOf a b k) (differenceAt a b k) k .size ≡ zero₃₂) ⊎ (pick t (largestOf a b k) (differenceAt a b k) k .size ≡ differenceAt a b (pick t (largestOf a b k) (differenceAt a b k) k .index))
       go true h = inr refl
       go false h = h
 
@@ -40,22 +39,22 @@ zero-finite : T (finite zero₃₂)
 unfolding ofBits
 zero-finite = tt
 
-module _ (s t : Shape) (numbers : (i : ℕ) → T (finite (differenceAt s t i))) where
-  largest-finite : (k : ℕ) → T (finite (largestOf s t k .size))
+module _ (a b : ℕ → Float) (numbers : (i : ℕ) → T (finite (differenceAt a b i))) where
+  largest-finite : (k : ℕ) → T (finite (largestOf a b k .size))
   unfolding largestOf largerOf
   largest-finite zero = zero-finite
-  largest-finite (suc k) = go (lt (largestOf s t k .size) (differenceAt s t k)) (largest-finite k)
+  largest-finite (suc k) = go (lt (largestOf a b k .size) (differenceAt a b k)) (largest-finite k)
     where
-      go : (b : Bool) → T (finite (largestOf s t k .size)) → T (finite (pick b (largestOf s t k) (differenceAt s t k) k .size))
+      go : (t : Bool) → T (finite (largestOf a b k .size)) → T (finite (pick t (largestOf a b k) (differenceAt a b k) k .size))
       go true h = numbers k
       go false h = h
 
   -- The value of each difference is at most that of the largest.
-  pub none-larger : (k i : ℕ) → i < k → AtMost (value (differenceAt s t i)) (value (largestOf s t k .size))
+  pub none-larger : (k i : ℕ) → i < k → AtMost (value (differenceAt a b i)) (value (largestOf a b k .size))
   unfolding largestOf largerOf
   none-larger zero i h = absurd (not-suc-le-zero h)
   none-larger (suc k) i h =
-      let l = largestOf s t k .size in
-      let d = differenceAt s t k in
+      let l = largestOf a b k .size in
+      let d = differenceAt a b k in
       let L = largest-finite k in
-      grown (differenceAt s t) i k (largestOf s t k) (lt l d) (numbers k) (lt-at-most l d L (numbers k)) (nlt-at-most l d L (numbers k)) (none-larger k i) (eq-or-lt-of-le (le-of-suc-le-suc h))
+      grown (differenceAt a b) i k (largestOf a b k) (lt l d) (numbers k) (lt-at-most l d L (numbers k)) (nlt-at-most l d L (numbers k)) (none-larger k i) (eq-or-lt-of-le (le-of-suc-le-suc h))

@@ -4,14 +4,13 @@ use Prim.Native.Nat.{ℕ, _+_, _≤_}
 use native.Mathlib.Nat.{le-antisymm}
 use native.Mathlib.Numerals.{add-one}
 use lib.Ieee.{Float}
-use Rattle.generator.specs.declared.Shape.{Shape}
 use Rattle.largest_difference.specs.declared.Largest.{Largest as ALargest}
 use Rattle.largest_difference.specs.Largest.{differenceAt, largerOf, largestOf}
 
-module _ (s t : Shape) where
-  pub largest-more : (i : ℕ) (l r : ALargest) (d : Float) → l ≡ largestOf s t i → d ≡ differenceAt s t i → r ≡ largerOf l d i → r ≡ largestOf s t (i + 1)
+module _ (a b : ℕ → Float) where
+  pub largest-more : (i : ℕ) (l r : ALargest) (d : Float) → l ≡ largestOf a b i → d ≡ differenceAt a b i → r ≡ largerOf l d i → r ≡ largestOf a b (i + 1)
   unfolding largestOf
   largest-more i l r d f g e = rw (add-one i) (rw (f, g) at e)
 
-  pub whole-strip : (i n : ℕ) (l : ALargest) → i ≤ n → n ≤ i → l ≡ largestOf s t i → l ≡ largestOf s t n
+  pub whole-strip : (i n : ℕ) (l : ALargest) → i ≤ n → n ≤ i → l ≡ largestOf a b i → l ≡ largestOf a b n
   whole-strip i n l h k f = let e : i ≡ n = le-antisymm h k in rw e at f

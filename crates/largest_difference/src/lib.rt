@@ -1,12 +1,12 @@
 // How far two curves are apart where they are farthest, and at which sample.
 ghost use mathlib.Core.Path.{_≡_};
-ghost use Rattle.largest_difference.specs.Largest.{differenceAt, largerOf, largestOf};
-use generator::Generator;
+ghost use Prim.Native.Nat.{_<_};
+ghost use lib.ListN.{length};
+ghost use Rattle.largest_difference.specs.Largest.{comparedSamples, heightsOf, differenceAt, largerOf, largestOf};
 use math::abs;
-use strip::sample_position;
 
-// The number of the last sample at which two curves are held against each other.
-pub const LAST: u16 = 1024;
+// At how many samples two curves are held against each other.
+pub const SAMPLES: usize = 1025;
 
 // How far two curves are apart where they are farthest, and the number of the first such sample.
 pub struct Largest {
@@ -14,13 +14,11 @@ pub struct Largest {
     pub index: u16,
 }
 
-fn difference(g: Generator, h: Generator, i: u16) -> f32
-    ensures { λ r. ⌜ r ≡ differenceAt (g .shape) (h .shape) i ⌝ }
+fn difference(old: &[f32], new: &[f32], i: usize) -> f32
+    requires { ⌜ (i < length (now old)) × (i < length (now new)) ⌝ }
+    ensures { λ r. ⌜ r ≡ differenceAt (heightsOf (now (old .entry))) (heightsOf (now (new .entry))) i ⌝ }
 {
-    let t = sample_position(i, LAST);
-    let a = g.at(t);
-    let b = h.at(t);
-    abs(a.height - b.height)
+    abs(old[i] - new[i])
 }
 
 fn larger(found: Largest, size: f32, i: u16) -> Largest
@@ -32,17 +30,19 @@ fn larger(found: Largest, size: f32, i: u16) -> Largest
     found
 }
 
-pub fn find_largest(g: Generator, h: Generator) -> Largest
-    ensures { λ r. ⌜ r ≡ largestOf (g .shape) (h .shape) 1025 ⌝ }
+// Of two strips, a height for each sample.
+pub fn find_largest(old: &[f32], new: &[f32]) -> Largest
+    requires { ⌜ (length (now old) ≡ comparedSamples) × (length (now new) ≡ comparedSamples) ⌝ }
+    ensures { λ r. ⌜ r ≡ largestOf (heightsOf (now (old .entry))) (heightsOf (now (new .entry))) comparedSamples ⌝ }
 {
     let mut found = Largest {
         size: 0.0,
         index: 0,
     };
-    let mut i: u16 = 0;
-    while i < 1025 {
-        let size = difference(g, h, i);
-        found = larger(found, size, i);
+    let mut i: usize = 0;
+    while i < SAMPLES {
+        let size = difference(old, new, i);
+        found = larger(found, size, i as u16);
         i += 1;
     }
     found
