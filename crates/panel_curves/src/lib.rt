@@ -7,7 +7,7 @@ ghost use Rattle.code_shapes.specs.Shapes.{shapeOf};
 ghost use Rattle.panel_curves.specs.Curves.{drawnText, olderText};
 use builders::of_shape;
 use code_shapes::shape_at;
-use code_strip::strip_at;
+use code_strip::strip_once_at;
 use codes::Code;
 use panel_line::SAMPLES;
 
@@ -17,7 +17,7 @@ pub fn put_drawn(out: &mut [u8], at: usize, block: &[u8], code: Code) -> usize
     ensures { λ r. ⌜ Puts (now (out .entry)) at (drawnText (shapeOf code (byteAt (now (block .entry))))) (now (out .exit)) r ⌝ }
 {
     let mut heights = [0.0f32; SAMPLES];
-    strip_at(block, code, &mut heights);
+    strip_once_at(block, code, &mut heights);
     let g = of_shape(shape_at(block, code));
     let mut next = panel_labels::put_subtitle(out, at, g.scale(), g.anchored());
     next = panel_frame::put_rest(out, next, g.rest());
@@ -32,7 +32,7 @@ pub fn put_older(out: &mut [u8], at: usize, older: &[u8], block: &[u8], code: Co
 {
     let mut old = [0.0f32; SAMPLES];
     let mut new = [0.0f32; SAMPLES];
-    strip_at(older, code, &mut old);
-    strip_at(block, code, &mut new);
+    strip_once_at(older, code, &mut old);
+    strip_once_at(block, code, &mut new);
     older_curve::put_older_curve(out, at, &old, &new)
 }

@@ -16,7 +16,7 @@ returns c =
       c .before .before .before .before .before .before .before .before .before .before .before .before .before .before .before .before .before .before .anchored .ensures,
       c .before .before .before .before .before .before .before .before .before .before .before .before .before .rest .ensures,
       c .before .before .before .before .before .before .before .before .marks .ensures,
-      c .before .before .before .before .before .before .before .before .before .before .before .before .before .before .before .before .before .before .before .before .before .before .before .before .strip-at .ensures .1,
+      c .before .before .before .before .before .before .before .before .before .before .before .before .before .before .before .before .before .before .before .before .before .before .before .before .strip-once-at .ensures .1,
       c .before .before .before .before .before .before .before .before .before .before .before .before .before .before .before .before .before .before .before .before .before .of-shape .ensures,
       c .before .before .before .before .before .before .before .before .before .before .before .before .before .before .before .before .before .before .before .before .before .before .shape-at .ensures,
     ) at
