@@ -69,12 +69,52 @@ const SHAPES: [&str; 7] = [
 /// The slew of the LFOs that are slewed.
 const SLEW: u8 = 128;
 
+/// What a row of the one walk has in its name beyond that of the plain engine.
+pub const ONE_WALK: &str = ", one walk";
+
+/// What fills a strip. Where an LFO is slewed, the plain engine walks to every sample from the start, the other along the strip once.
+#[derive(Clone, Copy, PartialEq)]
+enum Engine {
+    Plain,
+    OneWalk,
+}
+
+impl Engine {
+    fn suffix(self) -> &'static str {
+        match self {
+            Engine::Plain => "",
+            Engine::OneWalk => ONE_WALK,
+        }
+    }
+}
+
 /// A library, or the reference in one form and at one level. Its functions are found by the code; only the known form has several.
 struct Side {
     name: &'static str,
     height: [Height; 14],
     strip: [Strip; 14],
+    strip_once: [Strip; 14],
     taps_height: TapsHeight,
+}
+
+impl Side {
+    /// A side with one strip, which stands in for that of the one walk too.
+    fn new(name: &'static str, height: [Height; 14], strip: [Strip; 14], taps_height: TapsHeight) -> Self {
+        Self {
+            name,
+            height,
+            strip,
+            strip_once: strip,
+            taps_height,
+        }
+    }
+
+    fn strip(&self, engine: Engine, code: usize) -> Strip {
+        match engine {
+            Engine::Plain => self.strip[code],
+            Engine::OneWalk => self.strip_once[code],
+        }
+    }
 }
 
 /// A function of a side, by its symbol.
@@ -91,28 +131,38 @@ macro_rules! function {
 /// A side whose functions are called by its name, and the code where the codes are listed.
 macro_rules! side {
     ($name:literal) => {
-        Side {
-            name: $name,
-            height: [function!(Height, $name, "_height"); 14],
-            strip: [function!(Strip, $name, "_strip"); 14],
-            taps_height: function!(TapsHeight, $name, "_taps_height"),
-        }
+        Side::new(
+            $name,
+            [function!(Height, $name, "_height"); 14],
+            [function!(Strip, $name, "_strip"); 14],
+            function!(TapsHeight, $name, "_taps_height"),
+        )
     };
     ($name:literal, $($code:literal)*) => {
+        Side::new(
+            $name,
+            [$(function!(Height, $name, "_", $code, "_height")),*],
+            [$(function!(Strip, $name, "_", $code, "_strip")),*],
+            function!(TapsHeight, $name, "_taps_height"),
+        )
+    };
+}
+
+/// A side that has both engines.
+macro_rules! library {
+    ($name:literal) => {
         Side {
-            name: $name,
-            height: [$(function!(Height, $name, "_", $code, "_height")),*],
-            strip: [$(function!(Strip, $name, "_", $code, "_strip")),*],
-            taps_height: function!(TapsHeight, $name, "_taps_height"),
+            strip_once: [function!(Strip, $name, "_strip_once"); 14],
+            ..side!($name)
         }
     };
 }
 
 fn sides() -> Vec<Side> {
     vec![
-        side!("juvrada"),
+        library!("juvrada"),
         #[cfg(before)]
-        side!("before"),
+        library!("before"),
         side!("called2"),
         side!("called3"),
         side!("inlined2"),
@@ -138,12 +188,7 @@ fn nothing() -> Side {
         let steps = Steps::uninit();
         Answer { steps, height }
     }
-    Side {
-        name: NOTHING,
-        height: [height; 14],
-        strip: [strip; 14],
-        taps_height,
-    }
+    Side::new(NOTHING, [height; 14], [strip; 14], taps_height)
 }
 
 /// What all sides read and write, at the same addresses.
@@ -158,7 +203,7 @@ struct Data {
 #[derive(Clone, Copy)]
 enum Work {
     Heights { code: usize },
-    Strip { code: usize, n: usize },
+    Strip { engine: Engine, code: usize, n: usize },
     Taps,
 }
 
@@ -232,7 +277,9 @@ impl Work {
                 out,
                 times,
             ),
-            Work::Strip { code, .. } => drop(strips(side.strip[code], &data.program, code as u32, out, times)),
+            Work::Strip { engine, code, .. } => {
+                drop(strips(side.strip(engine, code), &data.program, code as u32, out, times))
+            }
             Work::Taps => trains(side.taps_height, &data.taps, &data.positions, out, times),
         }
     }
@@ -282,18 +329,23 @@ fn data() -> Box<Data> {
 /// Every figure: its row, its work, and the data that it is done on.
 fn figures(mut each: impl FnMut(&str, Work, &mut Data)) {
     let mut data = data();
-    let mut row = |name: String, code, data: &mut Data| {
-        each(&name, Work::Heights { code }, data);
-        LENGTHS.iter().for_each(|&n| each(&name, Work::Strip { code, n }, data));
+    let mut row = |name: String, engine: Engine, code, data: &mut Data| {
+        let name = name + engine.suffix();
+        if engine == Engine::Plain {
+            each(&name, Work::Heights { code }, data);
+        }
+        for n in LENGTHS {
+            each(&name, Work::Strip { engine, code, n }, data);
+        }
     };
     for (code, name) in CODES.iter().enumerate() {
-        row(format!("{code}: {name}"), code, &mut data);
+        row(format!("{code}: {name}"), Engine::Plain, code, &mut data);
     }
-    for slew in [0, SLEW] {
+    for (slew, engine) in [(0, Engine::Plain), (SLEW, Engine::Plain), (SLEW, Engine::OneWalk)] {
         for (shape, name) in SHAPES.iter().enumerate() {
             data.program.0[2] = shape as u8;
             data.program.0[6] = slew;
-            row(format!("3: LFO 1, {name}, slew {slew}"), 3, &mut data);
+            row(format!("3: LFO 1, {name}, slew {slew}"), engine, 3, &mut data);
         }
     }
     for used in [1, 4] {
@@ -406,6 +458,19 @@ fn race(work: Work, sides: &[Side], data: &mut Data, best: &mut [Best], least: &
     }
 }
 
+/// How the cost of our strip of LFO 1 grows; `ours` is our side alone.
+fn time_growth(row: &str, engine: Engine, ours: &[Side], data: &mut Data, least: &mut f64) {
+    let code = 3;
+    for n in LENGTHS {
+        let mut best = [Best::NONE];
+        race(Work::Strip { engine, code, n }, ours, data, &mut best, least);
+        let strip = ours[0].strip(engine, code);
+        let answer = strips(strip, &data.program, code as u32, &mut data.out[..n], 1);
+        let [_, steps] = unsafe { answer.steps.assume_init() };
+        println!("growth\t{row}\t{n}\t{steps}\t{}", best[0].text());
+    }
+}
+
 fn time() {
     let sides = sides();
     // Within a second some moment is quiet.
@@ -438,27 +503,13 @@ fn time() {
             println!("{line}\t{}\t{}", side.name, best.text());
         }
     }
-    // How our strip's cost grows.
     let mut data = data();
     for (shape, slew) in [(0, 0), (0, 1), (0, 255), (2, SLEW), (5, SLEW)] {
         data.program.0[2] = shape as u8;
         data.program.0[6] = slew;
-        for n in LENGTHS {
-            let mut best = [Best::NONE];
-            race(
-                Work::Strip { code: 3, n },
-                &sides[..1],
-                &mut data,
-                &mut best,
-                &mut least,
-            );
-            let answer = strips(sides[0].strip[3], &data.program, 3, &mut data.out[..n], 1);
-            let [_, steps] = unsafe { answer.steps.assume_init() };
-            println!(
-                "growth\t{}, slew {slew}\t{n}\t{steps}\t{}",
-                SHAPES[shape],
-                best[0].text()
-            );
+        for engine in [Engine::Plain, Engine::OneWalk] {
+            let row = format!("{}, slew {slew}{}", SHAPES[shape], engine.suffix());
+            time_growth(&row, engine, &sides[..1], &mut data, &mut least);
         }
     }
 }

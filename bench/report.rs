@@ -1,6 +1,6 @@
 //! The tables of what `time` and `count` left.
 
-use super::is_occupied;
+use super::{ONE_WALK, is_occupied};
 use std::collections::HashMap;
 
 const OURS: &str = "juvrada";
@@ -11,6 +11,9 @@ const CALLED: &[&str] = &["called2", "called3"];
 const INLINED: &[&str] = &["inlined2", "inlined3"];
 const BY_CODE: &[&str] = &["called2", "called3", "inlined2", "inlined3"];
 const KNOWN: &[&str] = &["known2", "known3"];
+
+/// Our plain engine, beside our one walk.
+const PLAIN: &str = "plain";
 
 /// A row's single height, of which the length is 1, or one of its strips: each side's numbers, one for each layout.
 #[derive(Default)]
@@ -59,6 +62,21 @@ impl Figure {
         let ratios = self.ratios(OURS, self.best(BY_CODE));
         let lowest = ratios.iter().copied().fold(f64::INFINITY, f64::min);
         (lowest, ratios.iter().copied().fold(0.0, f64::max))
+    }
+
+    /// Of a strip of one walk: ours, and that of the plain engine among the figures.
+    fn beside_plain(&self, figures: &[Figure]) -> Option<Figure> {
+        let row = self.row.strip_suffix(ONE_WALK)?;
+        let is_plain = |figure: &&Figure| figure.row == row && figure.length == self.length;
+        let plain = figures.iter().find(is_plain).expect("the plain engine's figure");
+        let sides = [(OURS, self), (PLAIN, plain)].map(|(side, figure)| (side.to_string(), figure.sides[OURS].clone()));
+        Some(Figure {
+            row: self.row.clone(),
+            length: self.length,
+            sides: sides.into(),
+            occupied: self.occupied || plain.occupied,
+            ..Figure::default()
+        })
     }
 
     /// How far the ratio has risen since the library before.
@@ -115,30 +133,49 @@ fn figure<'a>(figures: &'a mut Vec<Figure>, row: &str, length: &str) -> &'a mut 
     &mut figures[at]
 }
 
-/// A table with a row for each row of the figures and a column for each length.
+/// A small part has more digits, so that 1/50 can be told from 1/60.
+fn ratio_text(ratio: f64) -> String {
+    let digits = if ratio < 0.095 { 4 } else { 2 };
+    format!("{ratio:.digits$}")
+}
+
+/// A difference of ratios.
+fn difference_text(difference: f64) -> String {
+    format!("{difference:.2}")
+}
+
+/// A table with a row for each row of the figures and a column for each length; a length that the row does not have is left empty.
 fn print_table(figures: &[Figure], title: &str, cell: impl Fn(&Figure) -> String) {
     println!("{title}\n\n| Curve | One height | Strip of 2 | of 64 | of 512 | of 4,096 |\n|---|---|---|---|---|---|");
     for row in figures.chunk_by(|a, b| a.row == b.row) {
-        let cells: String = row
-            .iter()
-            .map(|figure| format!(" {}{} |", cell(figure), figure.star()))
-            .collect();
-        println!("| {} |{cells}{}", row[0].row, " |".repeat(5 - row.len()));
+        let cells = [1, 2, 64, 512, 4096].map(|length| {
+            row.iter()
+                .find(|figure| figure.length == length)
+                .map_or(String::new(), |figure| format!(" {}{}", cell(figure), figure.star()))
+        });
+        println!("| {} |{} |", row[0].row, cells.join(" |"));
     }
     println!();
 }
 
-/// The figure in which this is the largest.
-fn largest(figures: &[Figure], of: impl Fn(&Figure) -> f64) -> String {
-    let largest = figures.iter().max_by(|a, b| of(a).total_cmp(&of(b))).expect("a figure");
-    format!("{:.2} ({}{})", of(largest), largest.name(), largest.star())
+/// The figure in which this is the largest, after its number.
+fn largest<'a>(
+    figures: impl IntoIterator<Item = &'a Figure>,
+    text: fn(f64) -> String,
+    of: impl Fn(&Figure) -> f64,
+) -> String {
+    let largest = figures
+        .into_iter()
+        .max_by(|a, b| of(a).total_cmp(&of(b)))
+        .expect("a figure");
+    format!("{} ({}{})", text(of(largest)), largest.name(), largest.star())
 }
 
 fn print_forms(figures: &[Figure], what: &str) {
     let title = format!("Ratio of {what} against the Rust in each form: called, inlined, compiled for one curve");
     let cell = |figure: &Figure| {
         [CALLED, INLINED, KNOWN]
-            .map(|form| format!("{:.2}", figure.ours(form)))
+            .map(|form| ratio_text(figure.ours(form)))
             .join(" ")
     };
     print_table(figures, &title, cell);
@@ -150,7 +187,8 @@ fn print_times(figures: &[Figure]) {
         "Time of ours as a part of the Rust's, and the lowest and the highest of the layouts",
         |figure| {
             let (lowest, highest) = figure.spread();
-            format!("{:.2} ({lowest:.2}..{highest:.2})", figure.ours(BY_CODE))
+            let [ratio, lowest, highest] = [figure.ours(BY_CODE), lowest, highest].map(ratio_text);
+            format!("{ratio} ({lowest}..{highest})")
         },
     );
     print_table(figures, "Nanoseconds a sample, ours", |figure| {
@@ -166,7 +204,7 @@ fn print_counts(figures: &[Figure]) {
         |figure| {
             let digits = if figure.length == 1 { 1 } else { 0 };
             let [ours, theirs] = [OURS, figure.best(BY_CODE)].map(|side| figure.sides[side][0]);
-            format!("{ours:.digits$} {theirs:.digits$} {:.2}", ours / theirs)
+            format!("{ours:.digits$} {theirs:.digits$} {}", ratio_text(ours / theirs))
         },
     );
     print_forms(figures, "instructions");
@@ -181,7 +219,7 @@ fn print_rises(figures: &[Figure], what: &str) {
             let [before, after] = [BEFORE, OURS].map(|side| figure.ratio(side, rust));
             // Adding 0 makes -0 plain.
             let rise = ((after - before) * 100.0).round() / 100.0 + 0.0;
-            format!("{before:.2} {after:.2} {rise:+.2}")
+            format!("{} {} {rise:+.2}", ratio_text(before), ratio_text(after))
         },
     );
 }
@@ -203,6 +241,26 @@ fn print_growth(growth: &[Figure]) {
         }
     }
     println!();
+}
+
+/// What the limits of one walk are checked by.
+fn print_one_walk(figures: &[Figure], what: &str) {
+    let ratios = [(2, "2"), (512, "512"), (4096, "4,096")].map(|(length, n)| {
+        let strips = figures
+            .iter()
+            .filter(|figure| figure.length == length && figure.row.ends_with(ONE_WALK));
+        format!("of {n} {}", largest(strips, ratio_text, |figure| figure.ours(BY_CODE)))
+    });
+    println!("The largest ratio of {what} of one walk: {}.", ratios.join(", "));
+    let pairs: Vec<Figure> = figures
+        .iter()
+        .filter(|figure| figure.length == 2)
+        .filter_map(|figure| figure.beside_plain(figures))
+        .collect();
+    println!(
+        "One walk against the plain engine, the largest ratio of {what} of a strip of 2: {}.",
+        largest(&pairs, ratio_text, |figure| figure.ratio(OURS, PLAIN))
+    );
 }
 
 /// Callgrind's dumps: the name that was given to each, and its instructions. The driver's loop is taken off, but for the side's own return.
@@ -266,7 +324,7 @@ pub fn print(files: &[&str]) {
     if !times.is_empty() {
         println!(
             "The largest spread over the layouts: {}.",
-            largest(&times, |figure| figure.spread().1 - figure.spread().0)
+            largest(&times, difference_text, |figure| figure.spread().1 - figure.spread().0)
         );
         let occupied = times.iter().filter(|figure| figure.occupied).count();
         println!(
@@ -278,21 +336,22 @@ pub fn print(files: &[&str]) {
         for rust in BY_CODE.iter().chain(KNOWN) {
             println!(
                 "The largest ratio of {what} against {rust}: {}.",
-                largest(figures, |figure| figure.ratio(OURS, rust))
+                largest(*figures, ratio_text, |figure| figure.ratio(OURS, rust))
             );
         }
     }
     for (figures, what) in &measured {
         println!(
             "The largest ratio of {what}: {}.",
-            largest(figures, |figure| figure.ours(BY_CODE))
+            largest(*figures, ratio_text, |figure| figure.ours(BY_CODE))
         );
+        print_one_walk(figures, what);
     }
     if cfg!(before) {
         for (figures, what) in measured {
             println!(
                 "The largest rise of a ratio of {what}: {}.",
-                largest(figures, Figure::rise)
+                largest(figures, difference_text, Figure::rise)
             );
         }
     }
