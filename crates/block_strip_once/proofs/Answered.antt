@@ -15,6 +15,7 @@ use Rattle.generator.specs.declared.Shape.{Shape}
 use Rattle.generator.specs.declared.Shape.the-variants.{Envelope as AnEnvelope, Fade as AFade, Lfo as AnLfo, Filter as AFilter, Oscillator as AnOscillator, Noise as ANoise}
 use Rattle.generator.specs.declared.Scale.the-variants.{Turns}
 use Rattle.generator.specs.Generator.{generatorOf, scaleOf, scaleValue}
+use Rattle.generator.specs.declared.Generator.{Generator}
 use Rattle.generator.specs.Heights.{walkPhase}
 use Rattle.strip.specs.Strip.{samplePosition, sampleOf, lengthFits}
 use Rattle.strip.proofs.Lengths.{between}
@@ -28,12 +29,16 @@ use Rattle.codes.specs.declared.CodeRead.the-variants.{Known}
 use Rattle.codes.specs.Codes.{codeOf}
 use Rattle.code_bytes.specs.Bytes.{byteAt, blockLength}
 use Rattle.code_shapes.specs.Shapes.{shapeOf}
+use Rattle.code_strip.proofs.Forward.{code-forward}
+use Rattle.shape_strip.specs.Forward.{goesForward}
 use Rattle.code_heights.specs.Promises.{slewedCode, CodePromised}
 use Rattle.code_heights.proofs.Promised.{slewed}
 use Rattle.code_heights.proofs.EveryCode.{code-slewed, block-height}
 use Rattle.block.specs.declared.Chosen.{Chosen}
 use Rattle.block.specs.declared.Chosen.the-variants.{Generator as AGenerator, Refused}
-use Rattle.block.specs.Refusals.{chosenOf}
+use Rattle.block.specs.declared.Settled.{Settled}
+use Rattle.block.specs.declared.Settled.the-variants.{Known as KnownCode, Refused as NoCode}
+use Rattle.block.specs.Refusals.{settledOf, chosenBy, chosenOf}
 use Rattle.block.proofs.KnownCode.{known-chosen}
 use Rattle.block_strip.specs.declared.StripAnswer.{StripAnswer}
 use Rattle.block_strip.specs.declared.StripAnswer.the-variants.{Filled as AStrip, Refused as NoStrip}
@@ -42,6 +47,19 @@ use Rattle.block_strip.specs.Promises.{StripAnswered}
 use Rattle.block_strip.proofs.Answered.{strip-answered}
 use Rattle.block_strip_once.specs.Strips.{stripOnceAnswer}
 use Rattle.block_strip_once.specs.Promises.{WalkedOnce, StripOnceAnswered}
+
+-- ---- what is chosen goes forward
+forwardChosen : Chosen → Bool
+forwardChosen (AGenerator g) = goesForward (g .shape)
+forwardChosen (Refused r) = true
+
+pub chosen-forward : (block : List ℕ) (code : ℕ) (g : Generator) → chosenOf block code ≡ AGenerator g → goesForward (g .shape) ≡ true
+unfolding chosenOf chosenBy generatorOf forwardChosen
+chosen-forward block code g e = ap forwardChosen (sym e) ∙ go (settledOf block code)
+  where
+    go : (s : Settled) → forwardChosen (chosenBy s (byteAt block)) ≡ true
+    go (KnownCode c) = code-forward c (byteAt block)
+    go (NoCode r) = refl
 
 -- ---- it is refused where the plain engine refuses
 refused-alike : (a : Chosen) (n : ℕ) → stripRefusal (stripOnceAnswer a n) ≡ stripRefusal (stripAnswer a n)

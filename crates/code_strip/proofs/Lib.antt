@@ -1,2 +1,2 @@
--- Codes that are not walked.
-pub mod Unwalked
+-- The shapes of codes go forward.
+pub mod Forward

@@ -14,6 +14,7 @@ use code_settings::envelope_at;
 use code_settings::fade_at;
 use code_settings::lfo_at;
 use code_settings::oscillator_at;
+use code_shapes::shape_at;
 use codes::Code;
 use codes::EnvelopeId;
 use codes::LfoId;
@@ -23,10 +24,10 @@ use envelope_strip::fill_wide_envelope;
 use fade_strip::fill_fade;
 use generator::Shape;
 use lfo_strip::fill_lfo;
-use lfo_strip_once::fill_lfo_once;
 use settings::high_pass;
 use settings::low_pass_from;
 use settings::noise_from;
+use shape_strip::fill_once;
 use tone_strip::fill_filter;
 use tone_strip::fill_noise;
 use tone_strip::fill_oscillator;
@@ -69,21 +70,10 @@ pub fn strip_at(block: &[u8], code: Code, out: &mut [f32]) -> u32
     }
 }
 
-// ---- the same strip with one walk along it, where there is a walk; all other codes as above. The steps are its own.
-fn strip_lfo_once(block: &[u8], id: LfoId, unipolar: bool, out: &mut [f32]) -> u32
-    requires { ⌜ (length (now block) ≡ blockLength) × (2 ≤ length (now out)) × (length (now out) ≤ 4096) ⌝ }
-    ensures { λ r. ⌜ (r ≡ stepsOnce (Shape.Lfo (lfoAt (byteAt (now (block .entry))) (lfoFirst id) unipolar)) (length (now (out .entry)))) × (now (out .exit) ≡ filledOf (Shape.Lfo (lfoAt (byteAt (now (block .entry))) (lfoFirst id) unipolar)) (length (now (out .entry))) (length (now (out .entry))) (now (out .entry))) ⌝ }
-{
-    fill_lfo_once(lfo_at(block, id, unipolar), out)
-}
-
+// The same strip with one walk along it where an LFO has slew; its steps are its own.
 pub fn strip_once_at(block: &[u8], code: Code, out: &mut [f32]) -> u32
     requires { ⌜ (length (now block) ≡ blockLength) × (2 ≤ length (now out)) × (length (now out) ≤ 4096) ⌝ }
     ensures { λ r. ⌜ (r ≡ stepsOnce (shapeOf code (byteAt (now (block .entry)))) (length (now (out .entry)))) × (now (out .exit) ≡ filledOf (shapeOf code (byteAt (now (block .entry)))) (length (now (out .entry))) (length (now (out .entry))) (now (out .entry))) ⌝ }
 {
-    match code {
-        Code::Lfo(id) => strip_lfo_once(block, id, false, out),
-        Code::LfoUnipolar(id) => strip_lfo_once(block, id, true, out),
-        _ => strip_at(block, code, out),
-    }
+    fill_once(shape_at(block, code), out)
 }

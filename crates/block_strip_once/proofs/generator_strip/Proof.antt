@@ -1,0 +1,27 @@
+-- `generator_strip` answers as `stripOnceAnswer` says and leaves what `stripAfter` says: a length that fits is filled, another is refused. Assumes nothing.
+use Rattle.block_strip.specs.Strips.{stripAfter}
+use Rattle.block_strip_once.specs.Strips.{stripOnceAnswer}
+use Rattle.strip.proofs.Lengths.{between}
+use Rattle.strip.specs.Strip.{stripOf}
+use borrow.Author.Tests.{not-true, not-false}
+use mathlib.Core.Path.{sym, _∙_}
+use borrow.Author.Needs.{needs}
+use Rattle.block_strip_once.proofs.generator_strip.Statement.{statement}
+use Rattle.block_strip_once.proofs.generator_strip.Tie as tie
+
+returns : tie.Need-returns
+unfolding stripOnceAnswer stripAfter stripOf
+returns c = let unfit = sym (c .before .fits2 .ensures) ∙ not-true _ (c .if1 .taken) in (simp unfit, simp unfit)
+
+fill-once-requires : tie.Need-fill-once-requires
+fill-once-requires c κs = (c .before .before .before .before .pre, between _ (c .before .before .fits2 .ensures) (c .before .if1 .left))
+
+returns-2 : tie.Need-returns-2
+unfolding stripOnceAnswer stripAfter stripOf
+returns-2 c =
+    let fits = sym (c .before .before .before .before .before .fits2 .ensures) ∙ not-false _ (c .before .before .before .before .if1 .left) in
+    let filled = c .before .before .fill-once .ensures in
+    (simp (fits, filled .0), simp (fits, filled .1))
+
+pub generator-strip-spec : {M : Type 1} → statement M
+generator-strip-spec = tie.close (tie.spec (λ c κs. search needs) returns fill-once-requires (λ c. search needs) returns-2)

@@ -1,0 +1,2 @@
+-- Shapes that are not walked.
+pub mod Unwalked

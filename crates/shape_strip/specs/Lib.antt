@@ -1,0 +1,2 @@
+-- Shapes that one walk can serve.
+pub mod Forward
