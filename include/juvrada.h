@@ -111,8 +111,9 @@ juvrada_height_result juvrada_height(const uint8_t *block, size_t block_len, uin
 juvrada_strip_result juvrada_strip(const uint8_t *block, size_t block_len, uint32_t code, float *out, size_t out_len);
 
 /*
- * The same heights, bit for bit, and the same refusals, with one walk along the whole strip where an LFO's slew is not 0: far sooner done. `steps` is then that of the
- * one walk: one for each full step that ends short of the last sample's phase, and one for each sample; 191 + out_len where one turn is drawn, 671 + out_len where six are.
+ * The same heights, bit for bit, and the same refusals, with one walk along the whole strip where an LFO's slew is not 0: far sooner done.
+ * `steps` is that of the one walk: one for each full step that ends short of the last sample's phase, and one for each sample; 191 + out_len
+ * where one turn is drawn, 671 + out_len where six are. It is 0 of everything else.
  */
 juvrada_strip_result juvrada_strip_once(const uint8_t *block, size_t block_len, uint32_t code, float *out, size_t out_len);
 

@@ -1,7 +1,7 @@
 // The strip of a block and a code with one walk along it: the heights and the refusals of crate block_strip, and steps of its own.
 ghost use mathlib.Core.Path.{_≡_};
-ghost use lib.ListN.{length};
 ghost use mathlib.Core.Bool.{true};
+ghost use lib.ListN.{length};
 ghost use Rattle.shape_strip.specs.Forward.{goesForward};
 ghost use Rattle.block_strip.specs.Strips.{stripAfter};
 ghost use Rattle.block_strip_once.specs.Strips.{stripOnceAnswer};
