@@ -7,7 +7,6 @@ use native.Mathlib.Omega.{arith}
 use lib.Dec.{T}
 use lib.Ieee.{Float, le}
 use Rattle.exact.specs.Binary32.{_⊗_, zero₃₂}
-use Rattle.curve.specs.declared.Height.{Height}
 use Rattle.curve.specs.Curve.{clampUnitOf, positionOf}
 use Rattle.settings.specs.declared.Lfo.{Lfo}
 use Rattle.walk.specs.declared.Walk.{Walk}

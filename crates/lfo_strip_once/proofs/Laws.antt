@@ -1,7 +1,7 @@
 -- THE STEPS OF ONE WALK: none where no height takes steps, as the plain engine says. As numbers: the last sample lies at 1, so that its phase is the number of turns; 191 full steps fall short of 1 turn, and 671 of 6. Assumes nothing.
 use mathlib.Core.Path.{_≡_, refl, sym, ap, _∙_}
 use mathlib.Core.Bool.{Bool, true, false}
-use Prim.Native.Nat.{ℕ, suc, _+_, _-_, _≤_}
+use Prim.Native.Nat.{ℕ, _+_, _-_, _≤_}
 use lib.Dec.{lit≤}
 use lib.Ieee.{Float, ofBits, ofInt, neg, add, mul, div, isNan, lt, le, eq}
 use Rattle.exact.specs.Binary32.{_⊗_, bits, zero₃₂, one₃₂}
@@ -11,7 +11,7 @@ use Rattle.settings.specs.declared.LfoShape.{LfoShape}
 use Rattle.settings.specs.declared.LfoShape.the-variants.{Sine, Triangle, Square, RampUp, RampDown, SampleAndHold, SampleAndGlide}
 use Rattle.settings.specs.declared.Lfo.{Lfo}
 use Rattle.settings.specs.Settings.{lfoShapeOf, turnsOf, lfoOf}
-use Rattle.walk.specs.Formula.{stepOf, placeOf, fullSteps, walkedOf}
+use Rattle.walk.specs.Formula.{stepOf, placeOf, walkedOf}
 use Rattle.walk.proofs.Steps.{steps-to-place}
 use Rattle.lfo.specs.Formula.{lfoHeightOf}
 use Rattle.generator.specs.declared.Shape.the-variants.{Lfo as AnLfo}

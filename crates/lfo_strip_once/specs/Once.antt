@@ -3,7 +3,6 @@ use mathlib.Core.Bool.{Bool, _&&_}
 use Prim.Native.Nat.{ℕ, zero, suc, _+_, _-_}
 use lib.Ieee.{Float, lt, le}
 use Rattle.exact.specs.Binary32.{bits, zero₃₂}
-use Rattle.curve.specs.declared.Height.{Height}
 use Rattle.generator.specs.declared.Shape.{Shape}
 use Rattle.strip.specs.Strip.{sampleOf}
 

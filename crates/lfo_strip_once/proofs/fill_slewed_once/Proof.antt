@@ -4,7 +4,6 @@ use mathlib.Core.Bool.{Bool, true}
 use Prim.Native.Nat.{_-_}
 use lib.Dec.{T}
 use native.Mathlib.Nat.{le-antisymm}
-use native.Mathlib.Omega.{arith}
 use borrow.Author.Needs.{needs}
 use Rattle.generator.specs.declared.Shape.the-variants.{Lfo as AnLfo}
 use Rattle.walk.proofs.Onward.{may-go, full-on-small}

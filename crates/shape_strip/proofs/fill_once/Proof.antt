@@ -1,5 +1,5 @@
 -- `fill_once` fills by the family of the shape: an LFO's with one walk, all others as the plain engine does, which have no steps. Assumes nothing.
-use mathlib.Core.Path.{sym, _∙_}
+use mathlib.Core.Path.{_∙_}
 use borrow.Author.Needs.{needs}
 use Rattle.shape_strip.specs.Forward.{goesForward}
 use Rattle.shape_strip.proofs.Unwalked.{envelope-unwalked, fade-unwalked, filter-unwalked, oscillator-unwalked, noise-unwalked}
