@@ -1,7 +1,7 @@
 /*
  * The steps of one walk along a strip, against their law.
  *   strips law     many strips: the steps that are answered are 191 + n or 671 + n, and 0 where nothing is walked; a line says how many
- *   strips cost    under callgrind: a few strips by both engines, and a line for each: engine, samples, steps
+ *   strips cost    under callgrind: a few strips by both engines, and a line for each pair: shape, samples, the plain engine's steps, those of one walk
  */
 #include "juvrada.h"
 #include <stdio.h>

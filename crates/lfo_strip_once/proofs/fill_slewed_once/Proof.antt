@@ -1,6 +1,5 @@
 -- `fill_slewed_once` fills the strip, and answers the steps of one walk. The loop's invariant: the first i samples are written, and the walk stands after the full steps of the last of them. Assumes nothing.
-use mathlib.Core.Path.{_≡_, refl, sym, subst}
-use mathlib.Core.Bool.{Bool, true}
+use mathlib.Core.Path.{refl, sym, subst}
 use Prim.Native.Nat.{_-_}
 use lib.Dec.{T}
 use native.Mathlib.Nat.{le-antisymm}
@@ -12,9 +11,6 @@ use Rattle.strip.proofs.Filling.{Filled, filled-none, filled-next, filled-whole
 use Rattle.lfo_strip_once.proofs.AlongStrip.{behind, Standing, ready, walk-next, height-here, all-steps}
 use Rattle.lfo_strip_once.proofs.fill_slewed_once.Statement.{statement}
 use Rattle.lfo_strip_once.proofs.fill_slewed_once.Tie as tie
-
-is-t : {b : Bool} → b ≡ true → T b
-is-t e = subst T (sym e) tt
 
 abbrev Inv-loop : tie.InvT-loop
 Inv-loop l out₀ n last shape limit walk₀ i₀ out walk i = Filled (AnLfo l) n i out₀ out × Standing l n walk i
@@ -42,7 +38,7 @@ loop-again c =
     let taken = c .before .before .before .before .loop-test .taken in
     let position = c .before .before .before .sample-position .ensures in
     let unclamped = sample-position _ _ _ (bounds .0) (bounds .1) taken last position in
-    let stands = walk-next (start .args .l) _ _ last position (is-t (start .pre .0 .1)) bounds taken limit (l .loop .inv .1) (c .before .walk-on .ensures) in
+    let stands = walk-next (start .args .l) _ _ last position (subst T (sym (start .pre .0 .1)) tt) bounds taken limit (l .loop .inv .1) (c .before .walk-on .ensures) in
     (filled-next (AnLfo (start .args .l)) _ _ _ (l .loop .inv .0) taken _ last position (height-here (start .args .l) _ _ last position (start .pre .0 .0) unclamped limit stands (c .cut-height .ensures)), stands)
 
 returns : tie.Need-returns Inv-loop μ-loop

@@ -2,7 +2,7 @@
 use mathlib.Core.Path.{_∙_}
 use borrow.Author.Needs.{needs}
 use Rattle.shape_strip.specs.Forward.{goesForward}
-use Rattle.shape_strip.proofs.Unwalked.{envelope-unwalked, fade-unwalked, filter-unwalked, oscillator-unwalked, noise-unwalked}
+use Rattle.shape_strip.proofs.Unwalked.{no-lfo}
 use Rattle.shape_strip.proofs.fill_once.Statement.{statement}
 use Rattle.shape_strip.proofs.fill_once.Tie as tie
 
@@ -18,14 +18,14 @@ fill-once-spec =
     (λ c. search needs) fill-lfo-once-requires (λ c. search needs) (λ c κs. search needs)
     (λ c. search needs) (λ c κs. search needs) (λ c. search needs) (λ c κs. search needs)
     (λ c. search needs)
-    (λ c. let f = c .before .before .fill-wide-envelope .ensures in simp (c .before .before .before .before .before .shape .given .1) (f .0 ∙ envelope-unwalked _ _, f .1))
+    (λ c. let f = c .before .before .fill-wide-envelope .ensures in simp (c .before .before .before .before .before .shape .given .1) (f .0 ∙ no-lfo _ _ tt, f .1))
     (λ c. search needs)
-    (λ c. let f = c .before .before .fill-fade .ensures in simp (c .before .before .before .before .before .shape2 .given .1) (f .0 ∙ fade-unwalked _ _, f .1))
+    (λ c. let f = c .before .before .fill-fade .ensures in simp (c .before .before .before .before .before .shape2 .given .1) (f .0 ∙ no-lfo _ _ tt, f .1))
     (λ c. search needs)
     (λ c. simp (c .before .before .before .before .before .shape3 .given .1) (c .before .before .fill-lfo-once .ensures))
     (λ c. search needs)
-    (λ c. let f = c .before .before .fill-filter .ensures in simp (c .before .before .before .before .before .shape4 .given .1) (f .0 ∙ filter-unwalked _ _, f .1))
+    (λ c. let f = c .before .before .fill-filter .ensures in simp (c .before .before .before .before .before .shape4 .given .1) (f .0 ∙ no-lfo _ _ tt, f .1))
     (λ c. search needs)
-    (λ c. let f = c .before .before .fill-oscillator .ensures in simp (c .before .before .before .before .before .shape5 .given .1) (f .0 ∙ oscillator-unwalked _ _, f .1))
+    (λ c. let f = c .before .before .fill-oscillator .ensures in simp (c .before .before .before .before .before .shape5 .given .1) (f .0 ∙ no-lfo _ _ tt, f .1))
     (λ c. search needs)
-    (λ c. let f = c .before .before .fill-noise .ensures in simp (c .before .before .before .before .before .shape6 .given .1) (f .0 ∙ noise-unwalked _ _, f .1)))
+    (λ c. let f = c .before .before .fill-noise .ensures in simp (c .before .before .before .before .before .shape6 .given .1) (f .0 ∙ no-lfo _ _ tt, f .1)))
