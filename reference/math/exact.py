@@ -6,7 +6,8 @@ gives it, summed term by term; both numbers are rounded to 40 decimals. A floor 
 """
 
 from fractions import Fraction as F
-from math import factorial, floor
+from math import factorial, floor, frexp
+from struct import unpack
 
 from mpmath import log, mp, mpf, nint, power, sinpi
 
@@ -22,6 +23,7 @@ EXP2 = [F(0), F(1, 2), TOP, F(1), F(127, 64), F(24), F(-1, 10**9), F(-1, 3), F(-
 LOG2 = [F(0), F(1), F(3, 8), F(1000), F(2**25), F(1, 3), F(1, 2), TOP, 2 * TOP, 1 + F(1, 2**23), F(3, 2), F(1, 1000)]
 FLOOR = [(0, 1), (1, 3), (7, 2), (6, 2), (999, 1000), (2**40 + 1, 2), (-1, 10**9), (-1, 3), (-6, 4), (-7, 2), (-6, 2), (-1000, 1000), (-1001, 1000)]
 EXPONENT = [(1, 1), (3, 2), (6, 3), (7, 4), (1000, 1), (1024, 1), (2**24 - 1, 2**23), (1, 2), (3, 8), (1, 3), (7, 8), (4, 8), (1, 1024), (1, 1025), (2**24 - 1, 2**24), (1, 2**149)]
+PATTERN = [0x3F800000, 0x3F7FFFFF, 0xBE800000, 0xC0200000, 0x40FFF7CF, 0x4A800001, 0xCAFFFFFF, 0x4B000001, 0x00800000, 0xFF7FFFFF]  # of normal numbers
 
 
 def real(a):
@@ -92,3 +94,6 @@ for n, d in FLOOR:
 print("-- exponentOf")
 for n, d in EXPONENT:
     print(f"({n}, {d}, {integer(exponent(F(n, d)))})")
+print("-- exponent")
+for b in PATTERN:
+    print(f"(0x{b >> 16:04x}_{b & 0xFFFF:04x}, {integer(frexp(unpack('>f', b.to_bytes(4))[0])[1] - 1)})")

@@ -1,14 +1,14 @@
 -- THE FLOOR OF A FLOAT IS A FLOAT: `ofInt` does not round it. And a float with no digits below the point is its own floor. Assumes nothing.
 use mathlib.Core.Path.{_≡_, refl, sym, ap, _∙_, subst}
 use mathlib.Core.Bool.{Bool, true, false, cond, _&&_}
-use Prim.Native.Nat.{ℕ, zero, suc, _+_, _*_, _%_, _^_, _≤_, _<_, suc-le-suc}
-use native.Mathlib.Nat.{mul-one, zero-mul, zero-div, mul-assoc, mul-pos, mul-lt-mul-of-pos-right, le-of-lt, le-of-eq, le-trans, div-one, div-le-self, zero-lt-suc}
+use Prim.Native.Nat.{ℕ, zero, suc, _+_, _-_, _*_, _%_, _^_, _≤_, _<_, suc-le-suc}
+use native.Mathlib.Nat.{mul-one, zero-mul, zero-div, mul-assoc, mul-pos, mul-lt-mul-of-pos-right, le-of-lt, le-of-eq, le-trans, div-one, div-le-self, div-eq-of-lt-le, pow-suc, zero-lt-suc}
 use native.Mathlib.Omega.{arith}
 use lib.Dec.{T, eqb, leb, ltb, ltb→lt, lit≤}
 use lib.IntN.{ℤ, pos, negsuc, negℤ, natAbs}
 use lib.Pow.{pow-add, pow-pos}
 use lib.Ieee.{Float, nan, inf, fin, binary32, up, down, round, ofInt, fits}
-use lib.Ieee.Fits.{ofInt-fits, and-l, and-r}
+use lib.Ieee.Fits.{ofInt-fits, and-l, and-r, down-pos}
 use lib.Ieee.Exact.{HasValue, round-exact}
 use lib.Ieee.Scale.{finite}
 use Rattle.exact.specs.Fraction.{floorOver, floorℚ}
@@ -103,3 +103,25 @@ floor-self s m k f =
     one-float x (floorOf x) (floorℚ (value x)) f (floor-fits x f)
     (subst (λ (z : ℤ). Whole x z) (sym (value-is s (suc m) (pos k) ∙ over-one s v)) (signed-whole x s v (mul-pos (zero-lt-suc m) (pow-pos k)) (refl, refl)))
     (floor-exact x f tt)
+
+-- ---- by its digits: of a zero, of a size above q and not above q + 1, and of 2 ^ 23 or more
+pub floor-zero : (s : Bool) (e : ℤ) → floorOf (fin s 0 e) ≡ ofInt binary32 (pos 0)
+unfolding floorOf
+floor-zero s e = ap (λ (z : ℤ). ofInt binary32 z) (value-is s 0 e ∙ over-zero s (up e) (down e))
+
+pub floor-minus : (m : ℕ) (e : ℤ) (q : ℕ) → q * down e < m * up e → m * up e ≤ suc q * down e → floorOf (fin true m e) ≡ ofInt binary32 (negsuc q)
+unfolding floorOf value
+floor-minus m e q l h =
+    ap (λ (n : ℕ). ofInt binary32 (floorOver (negℤ (pos n)) (down e))) (one-more (m * up e) (omega arith))
+    ∙ ap (λ (n : ℕ). ofInt binary32 (negsuc n)) (div-eq-of-lt-le (down e) (omega arith) (omega arith))
+  where
+    one-more : (n : ℕ) → 0 < n → n ≡ suc (n - 1)
+    one-more n h = omega arith
+
+pub floor-large : (s : Bool) (m : ℕ) (e : ℤ) → T (fits binary32 (fin s m e)) → 2 ^ 23 * down e ≤ m * up e → fin s m e ≡ floorOf (fin s m e)
+floor-large s zero e f h = absurd (omega (arith, down-pos e))
+floor-large s (suc m) (pos k) f h = floor-self s m k f
+floor-large s (suc m) (negsuc k) f h = absurd (short (suc m) (2 ^ k) (digits-lt s m (negsuc k) f) (pow-pos k) (subst (λ (p : ℕ). 8388608 * p ≤ suc m * 1) (pow-suc 2 k) h))
+  where
+    short : (m p : ℕ) → m < 16777216 → 0 < p → 8388608 * (p * 2) ≤ m * 1 → ⊥
+    short m p h z l = omega arith

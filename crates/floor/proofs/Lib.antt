@@ -1,8 +1,8 @@
 -- The floor: what its code's proofs need, its laws, the phases for which `fract` is exact, and the definitions held against outside numbers.
 -- for the code
-pub mod NearWhole
 pub mod FloorExact
-pub mod FloorCases
+pub mod Patterns
+pub mod ByExponent
 -- the theorems
 pub mod FloorLaws
 pub mod Turned

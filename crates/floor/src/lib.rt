@@ -1,69 +1,41 @@
-// The largest whole number not above an f32, and what is left above it. Each takes every f32, a NaN, an infinity and a zero of either sign among them.
+// The largest whole number not above an f32, which may be a NaN, an infinity or a zero of either sign.
 ghost use mathlib.Core.Path.{_≡_};
-ghost use mathlib.Core.Bool.{cond};
-ghost use lib.Ieee.{lt, neg};
-ghost use Rattle.exact.specs.Binary32.{_⊕_, _⊖_, bits, zero₃₂, one₃₂};
-ghost use Rattle.floor.specs.Formula.{floorOf, fractOf};
+ghost use Rattle.floor.specs.Formula.{floorOf};
 
-// From here on an f32 has no fraction: 2 to the power 23.
-const WHOLE: f32 = 8388608.0;
+// In a bit pattern: what the sign weighs, and one step of the exponent's field.
+const SIGN: u32 = 0x8000_0000;
 
-// Half of that, and the number in the middle between it and its double.
-const NEAR: f32 = 4194304.0;
+const STEP: u32 = 0x80_0000;
 
-const CENTRE: f32 = 12582912.0;
+// The fields of exponent 0 and of exponent 23.
+const ONE: u32 = 127;
 
-// A whole number less than 1 away from an x between -WHOLE and WHOLE: beyond WHOLE a sum is rounded
-// to a whole number.
-fn nearby(x: f32) -> f32
-    ensures { λ r. ⌜ r ≡ cond (lt x zero₃₂) (x ⊖ bits 0x4b00_0000 ⊕ bits 0x4b00_0000) (x ⊕ bits 0x4b00_0000 ⊖ bits 0x4b00_0000) ⌝ }
-{
-    if x < 0.0 {
-        return x - WHOLE + WHOLE;
-    }
-    x + WHOLE - WHOLE
-}
+const WHOLE: u32 = 127 + 23;
 
-// What leads from a whole number less than 1 away from x to the largest not above x. It is added and not tested for: a branch here would go either way.
-fn step_down(x: f32, whole: f32) -> f32
-    ensures { λ r. ⌜ r ≡ cond (lt x whole) (neg one₃₂) zero₃₂ ⌝ }
-{
-    if x < whole {
-        return -1.0;
-    }
-    0.0
-}
-
-// The floor of any x.
-fn far_floor(x: f32) -> f32
-    ensures { λ r. ⌜ r ≡ floorOf x ⌝ }
-{
-    if !(x < WHOLE) {
-        return x;
-    }
-    if !(-WHOLE < x) {
-        return x;
-    }
-    let whole = nearby(x);
-    whole + step_down(x, whole)
-}
-
-// The largest whole number not above x. Near 0, where every caller's x lies, the sum with the centre is rounded to a whole number for either sign of x.
+// The largest whole number not above x, by the exponent of x: below 0 its size is less than 1, from 0 to 22 the lowest bits stand below the point, and from 23 on none does.
 pub fn floor(x: f32) -> f32
     ensures { λ r. ⌜ r ≡ floorOf x ⌝ }
 {
-    if x < NEAR {
-        if -NEAR < x {
-            let whole = x + CENTRE - CENTRE;
-            return whole + step_down(x, whole);
+    if x != x {
+        return x;
+    }
+    let bits: u32 = f32::to_bits(x);
+    let field = bits % SIGN / STEP;
+    if field < ONE {
+        if x < 0.0 {
+            return -1.0;
+        }
+        return 0.0;
+    }
+    if field >= WHOLE {
+        return x;
+    }
+    let low = bits % (1 << (WHOLE - field));
+    let cleared = f32::from_bits(bits - low);
+    if x < 0.0 {
+        if low != 0 {
+            return cleared - 1.0;
         }
     }
-    far_floor(x)
-}
-
-// What is left of x above its floor.
-pub fn fract(x: f32) -> f32
-    ensures { λ r. ⌜ r ≡ fractOf x ⌝ }
-{
-    x - floor(x)
+    cleared
 }

@@ -14,16 +14,16 @@ use lib.Ieee.Fits.{down-pos, kept-lt}
 use lib.Ieee.Bits.{is-false, cond-no, ofBits-toBits}
 use Rattle.rounding.proofs.Operations.{Quanta, of-value}
 
--- ---- a pattern with a field from 1 to 254 and no sign
-fields : (F t : ℕ) → 1 ≤ F → F < 255 → ofFields binary32 false F t ≡ odd 24 false (2 ^ 23 + t) (F - 1) 149
+-- ---- a pattern with a field from 1 to 254
+pub fields : (s : Bool) (F t : ℕ) → 1 ≤ F → F < 255 → ofFields binary32 s F t ≡ odd 24 s (2 ^ 23 + t) (F - 1) 149
 unfolding ofFields
-fields zero t h k = absurd (none h)
+fields s zero t h k = absurd (none h)
   where
     none : 1 ≤ 0 → ⊥
     none h = omega arith
-fields (suc x) t h k =
-    cond-no (eqb (suc x) 255) (cond (eqb t 0) (inf false) nan) (odd 24 false (2 ^ 23 + t) x 149) (not-T (eqb (suc x) 255) (λ (e : T (eqb (suc x) 255)). none (suc x) (eqb→eq (suc x) 255 e) k))
-    ∙ ap (λ (z : ℕ). odd 24 false (2 ^ 23 + t) z 149) (back x)
+fields s (suc x) t h k =
+    cond-no (eqb (suc x) 255) (cond (eqb t 0) (inf s) nan) (odd 24 s (2 ^ 23 + t) x 149) (not-T (eqb (suc x) 255) (λ (e : T (eqb (suc x) 255)). none (suc x) (eqb→eq (suc x) 255 e) k))
+    ∙ ap (λ (z : ℕ). odd 24 s (2 ^ 23 + t) z 149) (back x)
   where
     back : (x : ℕ) → x ≡ suc x - 1
     back x = omega arith
@@ -31,11 +31,12 @@ fields (suc x) t h k =
     none : (y : ℕ) → y ≡ 255 → y < 255 → ⊥
     none y e h = omega arith
 
+-- and no sign
 pub bits-are : (b : ℕ) → 2 ^ 23 ≤ b → b < 255 * 2 ^ 23 → ofBits binary32 b ≡ odd 24 false (2 ^ 23 + b % 2 ^ 23) (b / 2 ^ 23 - 1) 149
 unfolding ofBits
 bits-are b l h =
     ap (λ (s : Bool). ofFields binary32 s (b % 2 ^ 31 / 2 ^ 23) (b % 2 ^ 23)) (is-false (leb (2 ^ 31) b) (not-T (leb (2 ^ 31) b) (λ (e : T (leb (2 ^ 31) b)). none b (leb→le (2 ^ 31) b e) h)))
-    ∙ ap (λ (z : ℕ). ofFields binary32 false (z / 2 ^ 23) (b % 2 ^ 23)) (mod-eq-of-lt (small b h)) ∙ fields (b / 2 ^ 23) (b % 2 ^ 23) (above b l) (under b h)
+    ∙ ap (λ (z : ℕ). ofFields binary32 false (z / 2 ^ 23) (b % 2 ^ 23)) (mod-eq-of-lt (small b h)) ∙ fields false (b / 2 ^ 23) (b % 2 ^ 23) (above b l) (under b h)
   where
     none : (b : ℕ) → 2 ^ 31 ≤ b → b < 255 * 2 ^ 23 → ⊥
     none b h k = omega arith

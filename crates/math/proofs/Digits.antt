@@ -2,7 +2,7 @@
 use mathlib.Core.Path.{_≡_, refl, sym, ap, _∙_, subst}
 use mathlib.Core.Bool.{Bool, true, false, cond}
 use Prim.Native.Nat.{ℕ, zero, suc, _+_, _-_, _*_, _/_, _%_, _^_, _≤_, _<_}
-use native.Mathlib.Nat.{mul-one, mul-right-comm, eq-of-mul-eq-mul-right}
+use native.Mathlib.Nat.{one-mul, mul-assoc, mul-right-comm, eq-of-mul-eq-mul-right}
 use native.Mathlib.Omega.{arith}
 use lib.IntN.{ℤ, pos, negsuc, negℤ, subℕ}
 use lib.Pow.{pow-pos}
@@ -14,10 +14,13 @@ use Rattle.math.proofs.Bits.{bits-are}
 use Rattle.math.proofs.Whole.{sum-whole}
 
 -- a common factor of a value's fraction is left out
+pub reduced : (x : Float) (s : Bool) (a c p : ℕ) → 0 < p → HasValue x s (a * p) (c * p) → HasValue x s a c
+reduced nan s a c p h v = v
+reduced (inf t) s a c p h v = v
+reduced (fin t m e) s a c p h v = (v .0, eq-of-mul-eq-mul-right p h (m * up e * c) (a * down e) (mul-assoc (m * up e) c p ∙ v .1 ∙ mul-right-comm a p (down e)))
+
 pub cancel : (x : Float) (s : Bool) (q p : ℕ) → 0 < p → HasValue x s (q * p) p → HasValue x s q 1
-cancel nan s q p h v = v
-cancel (inf t) s q p h v = v
-cancel (fin t m e) s q p h v = (v .0, mul-one (m * up e) ∙ eq-of-mul-eq-mul-right p h (m * up e) (q * down e) (v .1 ∙ mul-right-comm q p (down e)))
+cancel x s q p h v = reduced x s q 1 p h (subst (λ (c : ℕ). HasValue x s (q * p) c) (sym (one-mul p)) v)
 
 -- ---- 2 ^ 23 taken off a whole number from there up
 abbrev pub step : Float

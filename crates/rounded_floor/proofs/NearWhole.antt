@@ -14,7 +14,8 @@ use lib.Ieee.Fits.{down-pos, core, round-is, nearest-le}
 use lib.Ieee.Exact.{HasValue, units-val}
 use lib.Ieee.Nearest.{closest, closest-same, nearest-ge}
 use borrow.Author.Tests.{leb-false, eqb-true, lt-ltb, le-ltb}
-use Rattle.exact.specs.Binary32.{_⊕_, _⊖_, bits}
+use Rattle.exact.specs.Binary32.{_⊕_, _⊖_}
+use Rattle.rounded_floor.specs.Rounding.{centre}
 use Rattle.math.proofs.Whole.{sum-whole}
 use Rattle.math.proofs.Digits.{step, cancel, minus-is, taken}
 
@@ -135,9 +136,6 @@ unfolding sub add neg sum ofBits
 near-negative m e h = from-sum true (m * up e) (down e) (fin true m e ⊖ step) (down-pos e) h (simp mul-one)
 
 -- ---- the same with 3 * 2 ^ 22, the middle between 2 ^ 23 and 2 ^ 24: both signs stay between those two
-abbrev pub centre : Float
-centre = bits 0x4b40_0000
-
 off : (x : Float) (Q : ℕ) → HasValue x false Q 1 → x ⊖ centre ≡ ofInt binary32 (subℕ Q 12582912)
 unfolding sub neg ofBits
 off x Q v = sum-whole x (neg centre) (pos Q) (negsuc 12582911) v (refl, refl)

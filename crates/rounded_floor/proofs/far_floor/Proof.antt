@@ -3,10 +3,10 @@ use mathlib.Core.Path.{refl, sym, subst}
 use lib.Dec.{T}
 use lib.Ieee.{binary32, fits}
 use borrow.Author.Tests.{not-true, not-false}
-use Rattle.floor.proofs.FloorCases.{high, low, between}
+use Rattle.rounded_floor.proofs.ByRounding.{high, low, within}
 use borrow.Author.Needs.{needs}
-use Rattle.floor.proofs.far_floor.Statement.{statement}
-use Rattle.floor.proofs.far_floor.Tie as tie
+use Rattle.rounded_floor.proofs.far_floor.Statement.{statement}
+use Rattle.rounded_floor.proofs.far_floor.Tie as tie
 
 -- the format holds an `f32`
 held : (c : tie.Start) → T (fits binary32 (c .args .x))
@@ -19,7 +19,7 @@ returns-2 : tie.Need-returns-2
 returns-2 c = low _ (held (c .before .before)) (not-true _ (c .if2 .taken))
 
 returns-3 : tie.Need-returns-3
-returns-3 c = simp (c .step-down .ensures, c .before .nearby .ensures) (between _ (held (c .before .before .before .before)) (not-false _ (c .before .before .before .if1 .left)) (not-false _ (c .before .before .if2 .left)) _ refl)
+returns-3 c = simp (c .step-down .ensures, c .before .nearby .ensures) (within _ (held (c .before .before .before .before)) (not-false _ (c .before .before .before .if1 .left)) (not-false _ (c .before .before .if2 .left)) _ refl)
 
 pub far-floor-spec : {M : Type 1} → statement M
 far-floor-spec = tie.close (tie.spec returns returns-2 (λ c κs. search needs) (λ c κs. search needs) returns-3)

@@ -1,0 +1,2 @@
+-- The floor by rounding.
+pub mod Rounding
