@@ -23,14 +23,14 @@ use Rattle.floor.proofs.FloorExact.{floor-zero, floor-minus, floor-larg
 use Rattle.floor.proofs.Patterns.{sign, field, digits, bits-is, normal-value, small-value, cut-value, low-digits, cleared-value, shifted, shifted-is}
 
 -- ---- the test of the sign
-not-below : (m : ℕ) (e : ℤ) → lt (fin false m e) zero₃₂ ≡ false
+pub not-below : (m : ℕ) (e : ℤ) → lt (fin false m e) zero₃₂ ≡ false
 unfolding lt ofBits
 not-below m e = le-ltb (m * up e * 1) (0 * 1 * down e) (none (m * up e) (down e))
   where
     none : (n d : ℕ) → 0 * 1 * d ≤ n * 1
     none n d = omega arith
 
-below : (m : ℕ) (e : ℤ) → lt (fin true (suc m) e) zero₃₂ ≡ true
+pub below : (m : ℕ) (e : ℤ) → lt (fin true (suc m) e) zero₃₂ ≡ true
 unfolding lt ofBits
 below m e = lt-ltb 0 (suc m * up e * 1 + 0 * 1 * down e) (some (suc m * up e) (down e) (mul-pos (zero-lt-suc m) (up-pos e)))
   where
@@ -46,13 +46,13 @@ zero-not-below e = le-ltb 0 (0 * up e * 1 + 0 * 1 * down e) (none (up e) (down e
 
 -- ---- n / d, where it is a / c: between the same whole numbers
 module _ (n d a c : ℕ) (D : 0 < d) (C : 0 < c) (v : n * c ≡ a * d) where
-  pub over : (q : ℕ) → q * c < a → q * d < n
+  over : (q : ℕ) → q * c < a → q * d < n
   over q h = lt-of-mul-lt-mul-right c (subst (λ (y : ℕ). y < n * c) (mul-right-comm q c d) (subst (λ (y : ℕ). q * c * d < y) (sym v) (mul-lt-mul-of-pos-right h D)))
 
-  pub from : (q : ℕ) → q * c ≤ a → q * d ≤ n
+  from : (q : ℕ) → q * c ≤ a → q * d ≤ n
   from q h = le-of-mul-le-mul-right (subst (λ (y : ℕ). y ≤ n * c) (mul-right-comm q c d) (subst (λ (y : ℕ). q * c * d ≤ y) (sym v) (mul-le-mul-right d h))) C
 
-  pub to : (q : ℕ) → a ≤ q * c → n ≤ q * d
+  to : (q : ℕ) → a ≤ q * c → n ≤ q * d
   to q h = le-of-mul-le-mul-right (subst (λ (y : ℕ). n * c ≤ y) (mul-right-comm q c d) (subst (λ (y : ℕ). y ≤ q * c * d) (sym v) (mul-le-mul-right d h))) C
 
 -- ---- the floor of what has the value a / c, or -a / c
@@ -76,7 +76,7 @@ sign-is (fin false m e) s a c A (i, v) = not-below m e ∙ i
 sign-is (fin true zero e) s a c A (i, v) = absurd (none (up e) (a * down e) (mul-pos A (down-pos e)) v)
   where
     none : (u n : ℕ) → 0 < n → 0 * u * c ≡ n → ⊥
-    none u n h k = omega (arith, k, zero-mul (c))
+    none u n h k = omega (arith, zero-mul c)
 sign-is (fin true (suc m) e) s a c A (i, v) = below m e ∙ i
 
 -- ---- an exponent below 0: a size below 1
@@ -179,11 +179,11 @@ field-is f e = go (ltb f 127) refl
 
 -- ---- THE LAWS
 -- below 0: -1 for a number below 0, otherwise +0
-pub floor-below-0 : (b n : ℕ) → exponent b ≡ negsuc n → floorOf (bits b) ≡ cond (lt (bits b) zero₃₂) (neg one₃₂) zero₃₂
+pub floor-below-0 : (b n : ℕ) → exponent b ≡ negsuc n → floorOf (bits b) ≡ smallFloor b
 floor-below-0 b n h = by-field-small b (negative-field (field b) n h)
 
 -- from 0 to 22: the low 23 - e bits of the fraction cleared, less 1 where the number is below 0 and one of them was set
-pub floor-0-to-22 : (b e : ℕ) → exponent b ≡ pos e → e ≤ 22 → floorOf (bits b) ≡ cond (lt (bits b) zero₃₂ && set (23 - e) b) (bits (cleared (23 - e) b) ⊖ one₃₂) (bits (cleared (23 - e) b))
+pub floor-0-to-22 : (b e : ℕ) → exponent b ≡ pos e → e ≤ 22 → floorOf (bits b) ≡ cutFloor (23 - e) b
 floor-0-to-22 b e h l = by-field-cut b (23 - e) (omega arith) (omega arith) (omega (arith, field-is (field b) e h))
 
 -- from 23 on: the number itself

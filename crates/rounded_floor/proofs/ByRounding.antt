@@ -10,7 +10,7 @@ use lib.Ieee.{Float, nan, inf, fin, binary32, up, down, ofBits, toBits, round, s
 use lib.Ieee.Fits.{up-pos, down-pos}
 use lib.Ieee.Back.{whole-unique}
 use lib.Ieee.Bits.{ofBits-toBits}
-use borrow.Author.Tests.{ltb-true, ltb-false, lt-ltb, le-ltb}
+use borrow.Author.Tests.{ltb-true, ltb-false, le-ltb}
 use Rattle.exact.specs.Value.{value}
 use Rattle.exact.specs.Binary32.{_⊕_, _⊖_, zero₃₂, one₃₂}
 use Rattle.floor.specs.Formula.{floorOf}
@@ -19,7 +19,7 @@ use Rattle.rounded_floor.specs.Rounding.{near, whole, centre, nearbyOf, 
 use Rattle.math.proofs.Whole.{Whole, of-int, sum-whole, below-whole, from-whole, below-minus, from-minus}
 use Rattle.rounded_floor.proofs.NearWhole.{Nearby, near-positive, near-negative, centred-positive, centred-negative}
 use Rattle.floor.proofs.FloorExact.{floor-minus, floor-large}
-use Rattle.floor.proofs.ByExponent.{floor-by-exponent}
+use Rattle.floor.proofs.ByExponent.{not-below, below, floor-by-exponent}
 
 -- ---- from 2 ^ 23 on
 left : (n d : ℕ) → 0 < d → n * 1 + 8388608 * d ≤ 0 → ⊥
@@ -111,18 +111,10 @@ at-minus-zero true h = absurd (false≢true h)
 at-minus-zero false h = refl
 
 near-is : (m : ℕ) (e : ℤ) → nearbyOf (fin false m e) ≡ fin false m e ⊕ whole ⊖ whole
-unfolding lt ofBits
-near-is m e = simp (le-ltb (m * up e * 1) (0 * 1 * down e) (none (m * up e) (down e)))
-  where
-    none : (n d : ℕ) → 0 * 1 * d ≤ n * 1
-    none n d = omega arith
+near-is m e = simp (not-below m e)
 
 minus-near-is : (m : ℕ) (e : ℤ) → nearbyOf (fin true (suc m) e) ≡ fin true (suc m) e ⊖ whole ⊕ whole
-unfolding lt ofBits
-minus-near-is m e = simp (lt-ltb 0 (suc m * up e * 1 + 0 * 1 * down e) (some (suc m * up e) (down e) (mul-pos (zero-lt-suc m) (up-pos e))))
-  where
-    some : (n d : ℕ) → 0 < n → 0 < n * 1 + 0 * 1 * d
-    some n d h = omega arith
+minus-near-is m e = simp (below m e)
 
 pub within : (x : Float) → T (fits binary32 x) → lt x whole ≡ true → lt (neg whole) x ≡ true → Floored x
 unfolding lt neg ofBits
