@@ -1,0 +1,2 @@
+-- A bit pattern as text.
+pub mod Pattern

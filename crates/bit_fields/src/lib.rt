@@ -1,0 +1,49 @@
+// The bit pattern of an f32 as text: in hexadecimal digits, and as sign, field of the exponent and fraction, bit by bit.
+ghost use Prim.Native.Nat.{_≤_};
+ghost use Rattle.text.specs.Text.{Puts};
+ghost use Rattle.numerals.specs.Spelled.{digitsOf};
+ghost use Rattle.bit_fields.specs.Pattern.{fieldsText, patternText};
+use numerals::put_hex;
+use text::put;
+use text::put_byte;
+
+// What the sign weighs, and one step of the exponent's field.
+const SIGN: u32 = 0x8000_0000;
+
+const STEP: u32 = 0x80_0000;
+
+// The last bits of a number, the most significant first.
+fn put_bits(out: &mut [u8], at: usize, n: u32, count: u32) -> usize
+    requires { ⌜ count ≤ 32 ⌝ }
+    ensures { λ r. ⌜ Puts (now (out .entry)) at (digitsOf 2 count n) (now (out .exit)) r ⌝ }
+{
+    let mut next = at;
+    let mut left = count;
+    while left > 0 {
+        left -= 1;
+        let bit = n / (1 << left) % 2;
+        next = put_byte(out, next, 48 + bit as u8);
+    }
+    next
+}
+
+// The sign, the field of the exponent and the fraction, a space between two.
+fn put_fields(out: &mut [u8], at: usize, b: u32) -> usize
+    ensures { λ r. ⌜ Puts (now (out .entry)) at (fieldsText b) (now (out .exit)) r ⌝ }
+{
+    let mut next = put_bits(out, at, b / SIGN, 1);
+    next = put(out, next, b" ");
+    next = put_bits(out, next, b / STEP, 8);
+    next = put(out, next, b" ");
+    put_bits(out, next, b, 23)
+}
+
+// The pattern in hexadecimal, then bit by bit.
+pub fn put_pattern(out: &mut [u8], at: usize, b: u32) -> usize
+    ensures { λ r. ⌜ Puts (now (out .entry)) at (patternText b) (now (out .exit)) r ⌝ }
+{
+    let mut next = put(out, at, b"0x");
+    next = put_hex(out, next, b);
+    next = put(out, next, b"  ");
+    put_fields(out, next, b)
+}

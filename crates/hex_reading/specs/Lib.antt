@@ -1,0 +1,2 @@
+-- A bit pattern read from its digits.
+pub mod Reading
