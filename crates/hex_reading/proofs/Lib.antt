@@ -1,0 +1,3 @@
+-- What the loop needs, and examples.
+pub mod Reading
+pub mod Examples
