@@ -1,0 +1,68 @@
+-- THE REASONS BY THE TESTS of the code, and the cleared pattern as it has it. Assumes nothing.
+use mathlib.Core.Path.{_≡_, refl, ap, sym, _∙_, subst}
+use mathlib.Core.Bool.{Bool, true, false}
+use mathlib.Core.List.{List, _++_}
+use Prim.Native.Nat.{ℕ, _-_, _%_, _^_, _<_}
+use lib.Dec.{eqb}
+use lib.Ieee.{lt}
+use Rattle.exact.specs.Binary32.{bits, zero₃₂}
+use Rattle.floor.specs.Exponent.{cleared}
+use Rattle.floor.proofs.Patterns.{shifted, shifted-is}
+use Rattle.text.specs.Text.{ascii}
+use Rattle.numerals.specs.Spelled.{decimalOf}
+use Rattle.floor_lines.specs.Lines.{lineOf, smallReason, clearedReason, setReason, unsetReason, stepReason}
+
+-- ---- an exponent below 0
+pub small-minus : (b : ℕ) → lt (bits b) zero₃₂ ≡ true → ascii "-1, since x is below 0\n" ≡ smallReason b
+unfolding smallReason
+small-minus b h = rw h
+
+pub small-nothing : (b : ℕ) → lt (bits b) zero₃₂ ≡ false → ascii "+0, since x is not below 0\n" ≡ smallReason b
+unfolding smallReason
+small-nothing b h = rw h
+
+-- ---- k bits below the point: one of them, or more
+pub one-cleared : (k : ℕ) → eqb k 1 ≡ true → ascii "the lowest bit of the fraction is cleared\n" ≡ clearedReason k
+unfolding clearedReason
+one-cleared k h = rw h
+
+pub some-cleared : (k : ℕ) → eqb k 1 ≡ false → ascii "the low " ++ decimalOf k ++ ascii " bits of the fraction are cleared\n" ≡ clearedReason k
+unfolding clearedReason
+some-cleared k h = rw h
+
+pub one-set : (k : ℕ) → eqb k 1 ≡ true → ascii "less 1, since x is below 0 and it was set\n" ≡ setReason k
+unfolding setReason
+one-set k h = rw h
+
+pub some-set : (k : ℕ) → eqb k 1 ≡ false → ascii "less 1, since x is below 0 and one of them was set\n" ≡ setReason k
+unfolding setReason
+some-set k h = rw h
+
+pub one-unset : (k : ℕ) → eqb k 1 ≡ true → ascii "and that is all, since it was not set\n" ≡ unsetReason k
+unfolding unsetReason
+one-unset k h = rw h
+
+pub some-unset : (k : ℕ) → eqb k 1 ≡ false → ascii "and that is all, since none of them was set\n" ≡ unsetReason k
+unfolding unsetReason
+some-unset k h = rw h
+
+-- ---- whether 1 is taken off: `low` is what the k bits come to
+module _ (b k low : ℕ) (e : low ≡ b % 2 ^ k) where
+  pub step-unset : lt (bits b) zero₃₂ ≡ true → eqb low 0 ≡ true → unsetReason k ≡ stepReason k b
+  unfolding stepReason
+  step-unset h f = rw (h, subst (λ (n : ℕ). eqb n 0 ≡ true) e f)
+
+  pub step-set : lt (bits b) zero₃₂ ≡ true → eqb low 0 ≡ false → setReason k ≡ stepReason k b
+  unfolding stepReason
+  step-set h f = rw (h, subst (λ (n : ℕ). eqb n 0 ≡ false) e f)
+
+pub step-above : (b k : ℕ) → lt (bits b) zero₃₂ ≡ false → ascii "and that is all, since x is not below 0\n" ≡ stepReason k b
+unfolding stepReason
+step-above b k h = rw h
+
+-- ---- the bits, and the pattern without them
+pub low-bits : (b k : ℕ) → k < 32 → b % shifted k ≡ b % 2 ^ k
+low-bits b k h = ap (λ (p : ℕ). b % p) (shifted-is k h)
+
+pub cleared-line : (name : List ℕ) (b k : ℕ) → k < 32 → lineOf name (b - b % shifted k) ≡ lineOf name (cleared k b)
+cleared-line name b k h = ap (λ (p : ℕ). lineOf name (b - b % p)) (shifted-is k h)

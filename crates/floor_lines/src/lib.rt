@@ -1,0 +1,161 @@
+// The floor of one f32, worked as on paper: its bit pattern, the case of its exponent, and what follows. Every pattern is taken, a NaN's too.
+ghost use mathlib.Core.Path.{_≡_};
+ghost use Prim.Native.Nat.{_+_, _/_, _%_, _^_, _<_, _≤_};
+ghost use Rattle.floor.specs.Exponent.{exponent};
+ghost use Rattle.text.specs.Text.{Puts};
+ghost use Rattle.floor_lines.specs.Lines.{lineOf, headOf, floorLine, smallReason, smallText};
+ghost use Rattle.floor_lines.specs.Lines.{clearedReason, setReason, unsetReason, stepReason, cutText};
+ghost use Rattle.floor_lines.specs.Lines.{largeText, caseText, workingText};
+use bit_fields::put_pattern;
+use float_bits::float_of;
+use float_bits::word_of;
+use floor::floor;
+use floor_number::put_exponent;
+use floor_number::put_floor_number;
+use numerals::put_decimal;
+use text::put;
+
+// In a bit pattern: what the sign weighs, and one step of the exponent's field.
+const SIGN: u32 = 0x8000_0000;
+
+const STEP: u32 = 0x80_0000;
+
+// The fields of exponent 0 and of exponent 23.
+const ONE: u32 = 127;
+
+const WHOLE: u32 = 127 + 23;
+
+// A pattern on a line, behind what it is.
+fn put_line(out: &mut [u8], at: usize, name: &[u8], b: u32) -> usize
+    ensures { λ r. ⌜ Puts (now (out .entry)) at (lineOf (now (name .entry)) b) (now (out .exit)) r ⌝ }
+{
+    let mut next = put(out, at, name);
+    next = put_pattern(out, next, b);
+    put(out, next, b"\n")
+}
+
+// The exponent, and what follows from it.
+fn put_head(out: &mut [u8], at: usize, b: u32, follows: &[u8]) -> usize
+    ensures { λ r. ⌜ Puts (now (out .entry)) at (headOf b (now (follows .entry))) (now (out .exit)) r ⌝ }
+{
+    let mut next = put(out, at, b"exponent ");
+    next = put_exponent(out, next, b);
+    put(out, next, follows)
+}
+
+// The floor at an exponent below 23: its pattern, and the whole number that it is.
+fn put_floor(out: &mut [u8], at: usize, b: u32) -> usize
+    requires { ⌜ b % 2 ^ 31 / 2 ^ 23 < 150 ⌝ }
+    ensures { λ r. ⌜ Puts (now (out .entry)) at (floorLine b) (now (out .exit)) r ⌝ }
+{
+    let mut next = put(out, at, b"floor    ");
+    next = put_pattern(out, next, word_of(floor(float_of(b))));
+    next = put(out, next, b"  ");
+    next = put_floor_number(out, next, b);
+    put(out, next, b"\n")
+}
+
+// ---- an exponent below 0
+fn put_small_reason(out: &mut [u8], at: usize, b: u32) -> usize
+    ensures { λ r. ⌜ Puts (now (out .entry)) at (smallReason b) (now (out .exit)) r ⌝ }
+{
+    if float_of(b) < 0.0 {
+        return put(out, at, b"-1, since x is below 0\n");
+    }
+    put(out, at, b"+0, since x is not below 0\n")
+}
+
+fn put_small(out: &mut [u8], at: usize, b: u32) -> usize
+    requires { ⌜ b % 2 ^ 31 / 2 ^ 23 < 127 ⌝ }
+    ensures { λ r. ⌜ Puts (now (out .entry)) at (smallText b) (now (out .exit)) r ⌝ }
+{
+    let mut next = put_head(out, at, b, b", below 0: ");
+    next = put_small_reason(out, next, b);
+    put_floor(out, next, b)
+}
+
+// ---- an exponent from 0 to 22, where k bits of the fraction stand below the point
+fn put_cleared_reason(out: &mut [u8], at: usize, k: u32) -> usize
+    ensures { λ r. ⌜ Puts (now (out .entry)) at (clearedReason k) (now (out .exit)) r ⌝ }
+{
+    if k == 1 {
+        return put(out, at, b"the lowest bit of the fraction is cleared\n");
+    }
+    let mut next = put(out, at, b"the low ");
+    next = put_decimal(out, next, k as u64);
+    put(out, next, b" bits of the fraction are cleared\n")
+}
+
+fn put_set_reason(out: &mut [u8], at: usize, k: u32) -> usize
+    ensures { λ r. ⌜ Puts (now (out .entry)) at (setReason k) (now (out .exit)) r ⌝ }
+{
+    if k == 1 {
+        return put(out, at, b"less 1, since x is below 0 and it was set\n");
+    }
+    put(out, at, b"less 1, since x is below 0 and one of them was set\n")
+}
+
+fn put_unset_reason(out: &mut [u8], at: usize, k: u32) -> usize
+    ensures { λ r. ⌜ Puts (now (out .entry)) at (unsetReason k) (now (out .exit)) r ⌝ }
+{
+    if k == 1 {
+        return put(out, at, b"and that is all, since it was not set\n");
+    }
+    put(out, at, b"and that is all, since none of them was set\n")
+}
+
+// Whether 1 is taken off, and why; `low` is what the bits below the point come to.
+fn put_step_reason(out: &mut [u8], at: usize, b: u32, k: u32, low: u32) -> usize
+    requires { ⌜ low ≡ b % 2 ^ k ⌝ }
+    ensures { λ r. ⌜ Puts (now (out .entry)) at (stepReason k b) (now (out .exit)) r ⌝ }
+{
+    if float_of(b) < 0.0 {
+        if low == 0 {
+            return put_unset_reason(out, at, k);
+        }
+        return put_set_reason(out, at, k);
+    }
+    put(out, at, b"and that is all, since x is not below 0\n")
+}
+
+fn put_cut(out: &mut [u8], at: usize, b: u32, k: u32) -> usize
+    requires { ⌜ (k ≤ 23) × (b % 2 ^ 31 / 2 ^ 23 + k ≡ 150) × (0 < k) ⌝ }
+    ensures { λ r. ⌜ Puts (now (out .entry)) at (cutText k b) (now (out .exit)) r ⌝ }
+{
+    let low = b % (1 << k);
+    let mut next = put_head(out, at, b, b", from 0 to 22: ");
+    next = put_cleared_reason(out, next, k);
+    next = put_line(out, next, b"cleared  ", b - low);
+    next = put_step_reason(out, next, b, k, low);
+    put_floor(out, next, b)
+}
+
+// ---- an exponent of 23 or more
+fn put_large(out: &mut [u8], at: usize, b: u32) -> usize
+    ensures { λ r. ⌜ Puts (now (out .entry)) at (largeText b) (now (out .exit)) r ⌝ }
+{
+    let next = put_head(out, at, b, b", 23 or more: x itself\n");
+    put_line(out, next, b"floor    ", b)
+}
+
+// ---- the whole
+fn put_case(out: &mut [u8], at: usize, b: u32) -> usize
+    ensures { λ r. ⌜ Puts (now (out .entry)) at (caseText (exponent b) b) (now (out .exit)) r ⌝ }
+{
+    let field = b % SIGN / STEP;
+    if field < ONE {
+        return put_small(out, at, b);
+    }
+    if field < WHOLE {
+        return put_cut(out, at, b, WHOLE - field);
+    }
+    put_large(out, at, b)
+}
+
+// The floor of a bit pattern, worked as on paper.
+pub fn put_working(out: &mut [u8], at: usize, b: u32) -> usize
+    ensures { λ r. ⌜ Puts (now (out .entry)) at (workingText b) (now (out .exit)) r ⌝ }
+{
+    let next = put_line(out, at, b"x        ", b);
+    put_case(out, next, b)
+}
