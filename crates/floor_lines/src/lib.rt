@@ -92,7 +92,11 @@ fn put_set_reason(out: &mut [u8], at: usize, k: u32) -> usize
     if k == 1 {
         return put(out, at, b"less 1, since x is below 0 and it was set\n");
     }
-    put(out, at, b"less 1, since x is below 0 and one of them was set\n")
+    put(
+        out,
+        at,
+        b"less 1, since x is below 0 and one of them was set\n",
+    )
 }
 
 fn put_unset_reason(out: &mut [u8], at: usize, k: u32) -> usize
@@ -119,7 +123,7 @@ fn put_step_reason(out: &mut [u8], at: usize, b: u32, k: u32, low: u32) -> usize
 }
 
 fn put_cut(out: &mut [u8], at: usize, b: u32, k: u32) -> usize
-    requires { ⌜ (k ≤ 23) × (b % 2 ^ 31 / 2 ^ 23 + k ≡ 150) × (0 < k) ⌝ }
+    requires { ⌜ (0 < k) × (k ≤ 23) × (b % 2 ^ 31 / 2 ^ 23 + k ≡ 150) ⌝ }
     ensures { λ r. ⌜ Puts (now (out .entry)) at (cutText k b) (now (out .exit)) r ⌝ }
 {
     let low = b % (1 << k);

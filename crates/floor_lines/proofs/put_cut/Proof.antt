@@ -9,18 +9,9 @@ use borrow.Author.Needs.{needs}
 use Rattle.floor_lines.proofs.put_cut.Statement.{statement}
 use Rattle.floor_lines.proofs.put_cut.Tie as tie
 
-rem-low : tie.Need-rem-low
-rem-low c = shifted-pos _ (omega arith)
-
-sub-put-line : tie.Need-sub-put-line
-sub-put-line c = mod-le _ _
-
-put-step-reason-requires : tie.Need-put-step-reason-requires
-put-step-reason-requires c κs = low-bits _ _ (omega arith)
-
 returns : tie.Need-returns
 unfolding cutText
-returns c = 
+returns c =
     c .before .before .before .before .before .before .before .before .before .before .before .before .before .before .before .before .before .before .before .put-head .ensures ⨾
     c .before .before .before .before .before .before .before .before .before .before .before .before .before .before .before .put-cleared-reason .ensures ⨾
     puts-as (cleared-line _ _ _ (omega arith)) (c .before .before .before .before .before .before .before .before .before .before .put-line .ensures) ⨾
@@ -29,6 +20,6 @@ returns c =
 
 pub put-cut-spec : {M : Type 1} → statement M
 put-cut-spec =
-    tie.close (tie.spec (λ c. search needs) rem-low (λ c. search needs) (λ c κs. search needs)
-    (λ c κs. search needs) (λ c. search needs) sub-put-line (λ c κs. search needs) put-step-reason-requires
+    tie.close (tie.spec (λ c. search needs) (λ c. shifted-pos _ (omega arith)) (λ c. search needs) (λ c κs. search needs)
+    (λ c κs. search needs) (λ c. search needs) (λ c. mod-le _ _) (λ c κs. search needs) (λ c κs. low-bits _ _ (omega arith))
     (λ c κs. search needs) (λ c. search needs) returns)

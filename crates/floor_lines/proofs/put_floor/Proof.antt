@@ -8,11 +8,15 @@ use Rattle.floor_lines.proofs.put_floor.Tie as tie
 
 returns : tie.Need-returns
 unfolding floorLine
-returns c = 
+returns c =
+    let w = c .before .before .before .before .before .before .before .before .before .before .before .before .before .before .before .before .before .word-of .ensures in
+    let f = c .before .before .before .before .before .before .before .before .before .before .before .before .before .before .before .before .before .before .floor .ensures in
+    let x = c .before .before .before .before .before .before .before .before .before .before .before .before .before .before .before .before .before .before .before .float-of .ensures in
+    let h = c .before .before .before .before .before .before .before .before .before .before .before .before .before .before .before .before .before .before .before .before .before .before .before .before .before .before .before .pre in
     c .before .before .before .before .before .before .before .before .before .before .before .before .before .before .before .before .before .before .before .before .before .before .before .put .ensures ⨾
-    (rw (c .before .before .before .before .before .before .before .before .before .before .before .before .before .before .before .before .before .word-of .ensures, c .before .before .before .before .before .before .before .before .before .before .before .before .before .before .before .before .before .before .floor .ensures, c .before .before .before .before .before .before .before .before .before .before .before .before .before .before .before .before .before .before .before .float-of .ensures) at (c .before .before .before .before .before .before .before .before .before .before .before .before .before .before .before .before .put-pattern .ensures)) ⨾
+    (rw (w, f, x) at (c .before .before .before .before .before .before .before .before .before .before .before .before .before .before .before .before .put-pattern .ensures)) ⨾
     c .before .before .before .before .before .before .before .before .before .before .before .put2 .ensures ⨾
-    puts-as (number-is _ (c .before .before .before .before .before .before .before .before .before .before .before .before .before .before .before .before .before .before .before .before .before .before .before .before .before .before .before .pre)) (c .before .before .before .before .before .before .before .put-floor-number .ensures) ⨾
+    puts-as (number-is _ h) (c .before .before .before .before .before .before .before .put-floor-number .ensures) ⨾
     c .before .before .put3 .ensures
 
 pub put-floor-spec : {M : Type 1} → statement M

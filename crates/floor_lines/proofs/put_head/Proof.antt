@@ -7,7 +7,7 @@ use Rattle.floor_lines.proofs.put_head.Tie as tie
 
 returns : tie.Need-returns
 unfolding headOf
-returns c = 
+returns c =
     c .before .before .before .before .before .before .before .before .before .before .put .ensures ⨾
     c .before .before .before .before .before .before .put-exponent .ensures ⨾
     c .before .before .put2 .ensures

@@ -7,7 +7,7 @@ use Rattle.floor_lines.proofs.put_large.Tie as tie
 
 returns : tie.Need-returns
 unfolding largeText
-returns c = 
+returns c =
     c .before .before .before .before .before .before .before .put-head .ensures ⨾
     c .before .before .put-line .ensures
 

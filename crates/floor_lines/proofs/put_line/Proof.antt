@@ -7,7 +7,7 @@ use Rattle.floor_lines.proofs.put_line.Tie as tie
 
 returns : tie.Need-returns
 unfolding lineOf
-returns c = 
+returns c =
     c .before .before .before .before .before .before .before .before .before .before .before .put .ensures ⨾
     c .before .before .before .before .before .before .before .put-pattern .ensures ⨾
     c .before .before .put2 .ensures

@@ -7,7 +7,7 @@ use Rattle.floor_lines.proofs.put_small.Tie as tie
 
 returns : tie.Need-returns
 unfolding smallText
-returns c = 
+returns c =
     c .before .before .before .before .before .before .before .before .before .before .put-head .ensures ⨾
     c .before .before .before .before .before .before .put-small-reason .ensures ⨾
     c .before .before .put-floor .ensures

@@ -7,35 +7,26 @@ use borrow.Author.Needs.{needs}
 use Rattle.floor_number.proofs.put_cut.Statement.{statement}
 use Rattle.floor_number.proofs.put_cut.Tie as tie
 
-div-size : tie.Need-div-size
-div-size c = shifted-pos _ (omega arith)
-
-cast-put-decimal : tie.Need-cast-put-decimal
-cast-put-decimal c = record { fits = size-fits _ _ }
-
 returns : tie.Need-returns
-returns c = puts-as (plus-text _ _ (c .before .before .before .before .before .before .pre .0) (c .before .before .before .before .before .before .pre .1) (c .before .before .before .before .before .before .pre .2) (c .before .before .before .before .if1 .taken)) (c .before .before .put-decimal .ensures)
-
-rem-if2 : tie.Need-rem-if2
-rem-if2 c = shifted-pos _ (omega arith)
-
-cast-put-minus : tie.Need-cast-put-minus
-cast-put-minus c = record { fits = size-fits _ _ }
+returns c =
+    let g = c .before .before .before .before .before .before .pre in
+    puts-as (plus-text _ _ (g .0) (g .1) (g .2) (c .before .before .before .before .if1 .taken)) (c .before .before .put-decimal .ensures)
 
 returns-2 : tie.Need-returns-2
-returns-2 c = puts-as (minus-text _ _ (c .before .before .before .before .before .before .before .pre .0) (c .before .before .before .before .before .before .before .pre .1) (c .before .before .before .before .before .before .before .pre .2) (c .before .before .before .before .before .if1 .left) (c .before .before .before .before .if2 .taken)) (c .before .before .put-minus .ensures)
-
-cast-put-minus-2 : tie.Need-cast-put-minus-2
-cast-put-minus-2 c = record { fits = size-fits _ _ }
-
-add-put-minus : tie.Need-add-put-minus
-add-put-minus c = record { fits = more-fits _ _ }
+returns-2 c =
+    let g = c .before .before .before .before .before .before .before .pre in
+    puts-as (minus-text _ _ (g .0) (g .1) (g .2) (c .before .before .before .before .before .if1 .left) (c .before .before .before .before .if2 .taken)) (c .before .before .put-minus .ensures)
 
 returns-3 : tie.Need-returns-3
-returns-3 c = puts-as (down-text _ _ (c .before .before .before .before .before .before .before .pre .0) (c .before .before .before .before .before .before .before .pre .1) (c .before .before .before .before .before .before .before .pre .2) (c .before .before .before .before .before .if1 .left) (let z = c .before .before .before .before .if2 .left in omega arith)) (c .before .before .put-minus2 .ensures)
+returns-3 c =
+    let g = c .before .before .before .before .before .before .before .pre in
+    let z = c .before .before .before .before .if2 .left in
+    puts-as (down-text _ _ (g .0) (g .1) (g .2) (c .before .before .before .before .before .if1 .left) (omega arith)) (c .before .before .put-minus2 .ensures)
 
 pub put-cut-spec : {M : Type 1} → statement M
 put-cut-spec =
-    tie.close (tie.spec (λ c. search needs) (λ c. search needs) div-size cast-put-decimal (λ c κs. search needs)
-    (λ c. search needs) returns rem-if2 cast-put-minus (λ c κs. search needs) (λ c. search needs) returns-2
-    cast-put-minus-2 add-put-minus (λ c κs. search needs) (λ c. search needs) returns-3)
+    tie.close (tie.spec (λ c. search needs) (λ c. search needs) (λ c. shifted-pos _ (omega arith))
+    (λ c. record { fits = size-fits _ _ }) (λ c κs. search needs) (λ c. search needs) returns
+    (λ c. shifted-pos _ (omega arith)) (λ c. record { fits = size-fits _ _ }) (λ c κs. search needs)
+    (λ c. search needs) returns-2 (λ c. record { fits = size-fits _ _ }) (λ c. record { fits = more-fits _ _ })
+    (λ c κs. search needs) (λ c. search needs) returns-3)

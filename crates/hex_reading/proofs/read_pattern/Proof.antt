@@ -21,17 +21,23 @@ returns-3 c = simp (le-ltb _ _ (c .before .before .before .if1 .left), le-ltb _ 
 returns-4 : tie.Need-returns-4
 unfolding readOf prefixed
 returns-4 c =
-    simp
-    (le-ltb _ _ (c .before .before .before .before .before .if1 .left), le-ltb _ _ (c .before .before .before .before .if2 .left),
-    eq-eqb _ _ (c .before .before .if3 .left), ne-eqb _ _ (c .if4 .taken))
+    simp (
+      le-ltb _ _ (c .before .before .before .before .before .if1 .left),
+      le-ltb _ _ (c .before .before .before .before .if2 .left),
+      eq-eqb _ _ (c .before .before .if3 .left),
+      ne-eqb _ _ (c .if4 .taken),
+    )
 
 returns-5 : tie.Need-returns-5
 unfolding readOf prefixed
 returns-5 c =
     c .read-digits .ensures
-    ∙ simp
-    (le-ltb _ _ (c .before .before .before .before .before .before .if1 .left), le-ltb _ _ (c .before .before .before .before .before .if2 .left),
-    eq-eqb _ _ (c .before .before .before .if3 .left), eq-eqb _ _ (c .before .if4 .left))
+    ∙ simp (
+      le-ltb _ _ (c .before .before .before .before .before .before .if1 .left),
+      le-ltb _ _ (c .before .before .before .before .before .if2 .left),
+      eq-eqb _ _ (c .before .before .before .if3 .left),
+      eq-eqb _ _ (c .before .if4 .left),
+    )
 
 pub read-pattern-spec : {M : Type 1} → statement M
 read-pattern-spec =
