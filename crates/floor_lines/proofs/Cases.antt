@@ -1,19 +1,21 @@
--- THE CASE BY THE FIELD of a pattern, and the floor that is written below exponent 23. Assumes nothing.
+-- THE CASE BY THE FIELD of a pattern; the floor that is written below exponent 23; the pattern with low bits cleared. Assumes nothing.
 use mathlib.Core.Path.{_≡_, refl, sym, ap, _∙_}
-use mathlib.Core.Bool.{Bool, true, false, cond}
-use Prim.Native.Nat.{ℕ, _-_, _≤_, _<_}
+use mathlib.Core.Bool.{Bool, true, false, cond, not}
+use mathlib.Core.List.{List}
+use Prim.Native.Nat.{ℕ, _-_, _%_, _≤_, _<_}
 use native.Mathlib.Omega.{arith}
 use borrow.Author.Tests.{lt-ltb, le-ltb, ltb-true, ltb-false}
-use lib.Dec.{ltb}
+use lib.Dec.{eqb, ltb}
 use lib.IntN.{ℤ}
 use Rattle.exact.specs.Fraction.{floorℚ}
 use Rattle.exact.specs.Value.{value}
 use Rattle.exact.specs.Binary32.{bits}
-use Rattle.floor.specs.Exponent.{exponent}
-use Rattle.floor.proofs.Patterns.{field}
+use Rattle.floor.specs.Exponent.{exponent, set, cleared}
+use Rattle.floor.proofs.Patterns.{field, shifted, shifted-is}
 use Rattle.floor_number.specs.Number.{wholeText, numberText}
 use Rattle.floor_number.proofs.Exponents.{exponent-below, exponent-from, number-small, number-cut}
-use Rattle.floor_lines.specs.Lines.{smallText, cutText, largeText, caseText}
+use Rattle.floor_reasons.specs.Reasons.{stepReason}
+use Rattle.floor_lines.specs.Lines.{lineOf, smallText, cutText, largeText, caseText}
 
 pub small-case : (b : ℕ) → field b < 127 → smallText b ≡ caseText (exponent b) b
 small-case b h = sym (ap (λ (z : ℤ). caseText z b) (exponent-below b h))
@@ -38,3 +40,11 @@ number-is b h = go (ltb (field b) 127) refl
     go : (t : Bool) → ltb (field b) 127 ≡ t → numberText b ≡ wholeText (floorℚ (value (bits b)))
     go true e = sym (number-small b (ltb-true (field b) 127 e))
     go false e = sym (number-cut b (ltb-false (field b) 127 e) h)
+
+-- ---- the k lowest bits as the code has them: the pattern without them, and whether one of them was set
+module _ (b k : ℕ) (h : k < 32) where
+  pub cleared-line : (name : List ℕ) → lineOf name (b - b % shifted k) ≡ lineOf name (cleared k b)
+  cleared-line name = ap (λ (p : ℕ). lineOf name (b - b % p)) (shifted-is k h)
+
+  pub set-reason : stepReason k (not (eqb (b % shifted k) 0)) b ≡ stepReason k (set k b) b
+  set-reason = ap (λ (p : ℕ). stepReason k (not (eqb (b % p) 0)) b) (shifted-is k h)

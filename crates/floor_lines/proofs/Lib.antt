@@ -1,4 +1,3 @@
--- The case by the field, the reasons by the code's tests, and examples.
+-- The case by the field, and examples.
 pub mod Cases
-pub mod Reasons
 pub mod Examples

@@ -3,16 +3,17 @@ ghost use mathlib.Core.Path.{_≡_};
 ghost use Prim.Native.Nat.{_+_, _/_, _%_, _^_, _<_, _≤_};
 ghost use Rattle.floor.specs.Exponent.{exponent};
 ghost use Rattle.text.specs.Text.{Puts};
-ghost use Rattle.floor_lines.specs.Lines.{lineOf, headOf, floorLine, smallReason, smallText};
-ghost use Rattle.floor_lines.specs.Lines.{clearedReason, setReason, unsetReason, stepReason, cutText};
-ghost use Rattle.floor_lines.specs.Lines.{largeText, caseText, workingText};
+ghost use Rattle.floor_lines.specs.Lines.{lineOf, headOf, floorLine};
+ghost use Rattle.floor_lines.specs.Lines.{smallText, cutText, largeText, caseText, workingText};
 use bit_fields::put_pattern;
 use float_bits::float_of;
 use float_bits::word_of;
 use floor::floor;
 use floor_number::put_exponent;
 use floor_number::put_floor_number;
-use numerals::put_decimal;
+use floor_reasons::put_cleared_reason;
+use floor_reasons::put_small_reason;
+use floor_reasons::put_step_reason;
 use text::put;
 
 // In a bit pattern: what the sign weighs, and one step of the exponent's field.
@@ -56,15 +57,6 @@ fn put_floor(out: &mut [u8], at: usize, b: u32) -> usize
 }
 
 // ---- an exponent below 0
-fn put_small_reason(out: &mut [u8], at: usize, b: u32) -> usize
-    ensures { λ r. ⌜ Puts (now (out .entry)) at (smallReason b) (now (out .exit)) r ⌝ }
-{
-    if float_of(b) < 0.0 {
-        return put(out, at, b"-1, since x is below 0\n");
-    }
-    put(out, at, b"+0, since x is not below 0\n")
-}
-
 fn put_small(out: &mut [u8], at: usize, b: u32) -> usize
     requires { ⌜ b % 2 ^ 31 / 2 ^ 23 < 127 ⌝ }
     ensures { λ r. ⌜ Puts (now (out .entry)) at (smallText b) (now (out .exit)) r ⌝ }
@@ -75,53 +67,6 @@ fn put_small(out: &mut [u8], at: usize, b: u32) -> usize
 }
 
 // ---- an exponent from 0 to 22, where k bits of the fraction stand below the point
-fn put_cleared_reason(out: &mut [u8], at: usize, k: u32) -> usize
-    ensures { λ r. ⌜ Puts (now (out .entry)) at (clearedReason k) (now (out .exit)) r ⌝ }
-{
-    if k == 1 {
-        return put(out, at, b"the lowest bit of the fraction is cleared\n");
-    }
-    let mut next = put(out, at, b"the low ");
-    next = put_decimal(out, next, k as u64);
-    put(out, next, b" bits of the fraction are cleared\n")
-}
-
-fn put_set_reason(out: &mut [u8], at: usize, k: u32) -> usize
-    ensures { λ r. ⌜ Puts (now (out .entry)) at (setReason k) (now (out .exit)) r ⌝ }
-{
-    if k == 1 {
-        return put(out, at, b"less 1, since x is below 0 and it was set\n");
-    }
-    put(
-        out,
-        at,
-        b"less 1, since x is below 0 and one of them was set\n",
-    )
-}
-
-fn put_unset_reason(out: &mut [u8], at: usize, k: u32) -> usize
-    ensures { λ r. ⌜ Puts (now (out .entry)) at (unsetReason k) (now (out .exit)) r ⌝ }
-{
-    if k == 1 {
-        return put(out, at, b"and that is all, since it was not set\n");
-    }
-    put(out, at, b"and that is all, since none of them was set\n")
-}
-
-// Whether 1 is taken off, and why; `low` is what the bits below the point come to.
-fn put_step_reason(out: &mut [u8], at: usize, b: u32, k: u32, low: u32) -> usize
-    requires { ⌜ low ≡ b % 2 ^ k ⌝ }
-    ensures { λ r. ⌜ Puts (now (out .entry)) at (stepReason k b) (now (out .exit)) r ⌝ }
-{
-    if float_of(b) < 0.0 {
-        if low == 0 {
-            return put_unset_reason(out, at, k);
-        }
-        return put_set_reason(out, at, k);
-    }
-    put(out, at, b"and that is all, since x is not below 0\n")
-}
-
 fn put_cut(out: &mut [u8], at: usize, b: u32, k: u32) -> usize
     requires { ⌜ (0 < k) × (k ≤ 23) × (b % 2 ^ 31 / 2 ^ 23 + k ≡ 150) ⌝ }
     ensures { λ r. ⌜ Puts (now (out .entry)) at (cutText k b) (now (out .exit)) r ⌝ }
@@ -130,7 +75,7 @@ fn put_cut(out: &mut [u8], at: usize, b: u32, k: u32) -> usize
     let mut next = put_head(out, at, b, b", from 0 to 22: ");
     next = put_cleared_reason(out, next, k);
     next = put_line(out, next, b"cleared  ", b - low);
-    next = put_step_reason(out, next, b, k, low);
+    next = put_step_reason(out, next, b, k, low != 0);
     put_floor(out, next, b)
 }
 

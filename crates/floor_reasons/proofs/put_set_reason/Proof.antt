@@ -1,10 +1,10 @@
 -- `put_set_reason` puts `setReason`, of one bit or of more. Assumes nothing.
 use borrow.Author.Tests.{eq-eqb, ne-eqb}
 use Rattle.text.proofs.Writing.{puts-as}
-use Rattle.floor_lines.proofs.Reasons.{one-set, some-set}
+use Rattle.floor_reasons.proofs.Reasons.{one-set, some-set}
 use borrow.Author.Needs.{needs}
-use Rattle.floor_lines.proofs.put_set_reason.Statement.{statement}
-use Rattle.floor_lines.proofs.put_set_reason.Tie as tie
+use Rattle.floor_reasons.proofs.put_set_reason.Statement.{statement}
+use Rattle.floor_reasons.proofs.put_set_reason.Tie as tie
 
 returns : tie.Need-returns
 returns c = puts-as (one-set _ (eq-eqb _ _ (c .before .before .before .before .before .if1 .taken))) (c .before .before .put .ensures)

@@ -1,16 +1,14 @@
--- THE REASONS BY THE TESTS of the code, and the cleared pattern as it has it. Assumes nothing.
-use mathlib.Core.Path.{_≡_, refl, ap, sym, _∙_, subst}
+-- THE REASONS BY THE TESTS of the code. Assumes nothing.
+use mathlib.Core.Path.{_≡_}
 use mathlib.Core.Bool.{Bool, true, false}
-use mathlib.Core.List.{List, _++_}
-use Prim.Native.Nat.{ℕ, _-_, _%_, _^_, _<_}
+use mathlib.Core.List.{_++_}
+use Prim.Native.Nat.{ℕ}
 use lib.Dec.{eqb}
 use lib.Ieee.{lt}
 use Rattle.exact.specs.Binary32.{bits, zero₃₂}
-use Rattle.floor.specs.Exponent.{cleared}
-use Rattle.floor.proofs.Patterns.{shifted, shifted-is}
 use Rattle.text.specs.Text.{ascii}
 use Rattle.numerals.specs.Spelled.{decimalOf}
-use Rattle.floor_lines.specs.Lines.{lineOf, smallReason, clearedReason, setReason, unsetReason, stepReason}
+use Rattle.floor_reasons.specs.Reasons.{smallReason, clearedReason, setReason, unsetReason, stepReason}
 
 -- ---- an exponent below 0
 pub small-minus : (b : ℕ) → lt (bits b) zero₃₂ ≡ true → ascii "-1, since x is below 0\n" ≡ smallReason b
@@ -46,23 +44,16 @@ pub some-unset : (k : ℕ) → eqb k 1 ≡ false → ascii "and that is all, sin
 unfolding unsetReason
 some-unset k h = rw h
 
--- ---- whether 1 is taken off: `low` is what the k bits come to
-module _ (b k low : ℕ) (e : low ≡ b % 2 ^ k) where
-  pub step-unset : lt (bits b) zero₃₂ ≡ true → eqb low 0 ≡ true → unsetReason k ≡ stepReason k b
+-- ---- whether 1 is taken off
+module _ (b k : ℕ) (some : Bool) where
+  pub step-set : lt (bits b) zero₃₂ ≡ true → some ≡ true → setReason k ≡ stepReason k some b
   unfolding stepReason
-  step-unset h f = rw (h, subst (λ (n : ℕ). eqb n 0 ≡ true) e f)
+  step-set h f = rw (h, f)
 
-  pub step-set : lt (bits b) zero₃₂ ≡ true → eqb low 0 ≡ false → setReason k ≡ stepReason k b
+  pub step-unset : lt (bits b) zero₃₂ ≡ true → some ≡ false → unsetReason k ≡ stepReason k some b
   unfolding stepReason
-  step-set h f = rw (h, subst (λ (n : ℕ). eqb n 0 ≡ false) e f)
+  step-unset h f = rw (h, f)
 
-pub step-above : (b k : ℕ) → lt (bits b) zero₃₂ ≡ false → ascii "and that is all, since x is not below 0\n" ≡ stepReason k b
-unfolding stepReason
-step-above b k h = rw h
-
--- ---- the bits, and the pattern without them
-pub low-bits : (b k : ℕ) → k < 32 → b % shifted k ≡ b % 2 ^ k
-low-bits b k h = ap (λ (p : ℕ). b % p) (shifted-is k h)
-
-pub cleared-line : (name : List ℕ) (b k : ℕ) → k < 32 → lineOf name (b - b % shifted k) ≡ lineOf name (cleared k b)
-cleared-line name b k h = ap (λ (p : ℕ). lineOf name (b - b % p)) (shifted-is k h)
+  pub step-above : lt (bits b) zero₃₂ ≡ false → ascii "and that is all, since x is not below 0\n" ≡ stepReason k some b
+  unfolding stepReason
+  step-above h = rw h

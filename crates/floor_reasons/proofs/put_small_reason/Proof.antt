@@ -1,9 +1,9 @@
 -- `put_small_reason` puts `smallReason`, by the test of the sign. Assumes nothing.
 use Rattle.text.proofs.Writing.{puts-as}
-use Rattle.floor_lines.proofs.Reasons.{small-minus, small-nothing}
+use Rattle.floor_reasons.proofs.Reasons.{small-minus, small-nothing}
 use borrow.Author.Needs.{needs}
-use Rattle.floor_lines.proofs.put_small_reason.Statement.{statement}
-use Rattle.floor_lines.proofs.put_small_reason.Tie as tie
+use Rattle.floor_reasons.proofs.put_small_reason.Statement.{statement}
+use Rattle.floor_reasons.proofs.put_small_reason.Tie as tie
 
 returns : tie.Need-returns
 returns c = puts-as (small-minus _ (rw (c .before .before .before .before .before .before .float-of .ensures) at (c .before .before .before .before .before .if1 .taken))) (c .before .before .put .ensures)

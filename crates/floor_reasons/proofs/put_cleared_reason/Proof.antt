@@ -1,10 +1,10 @@
 -- `put_cleared_reason` puts `clearedReason`, of one bit or of more. Assumes nothing.
 use borrow.Author.Tests.{eq-eqb, ne-eqb}
 use Rattle.text.proofs.Writing.{_⨾_, puts-as}
-use Rattle.floor_lines.proofs.Reasons.{one-cleared, some-cleared}
+use Rattle.floor_reasons.proofs.Reasons.{one-cleared, some-cleared}
 use borrow.Author.Needs.{needs}
-use Rattle.floor_lines.proofs.put_cleared_reason.Statement.{statement}
-use Rattle.floor_lines.proofs.put_cleared_reason.Tie as tie
+use Rattle.floor_reasons.proofs.put_cleared_reason.Statement.{statement}
+use Rattle.floor_reasons.proofs.put_cleared_reason.Tie as tie
 
 returns : tie.Need-returns
 returns c = puts-as (one-cleared _ (eq-eqb _ _ (c .before .before .before .before .before .if1 .taken))) (c .before .before .put .ensures)

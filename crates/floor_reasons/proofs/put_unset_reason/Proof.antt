@@ -1,10 +1,10 @@
 -- `put_unset_reason` puts `unsetReason`, of one bit or of more. Assumes nothing.
 use borrow.Author.Tests.{eq-eqb, ne-eqb}
 use Rattle.text.proofs.Writing.{puts-as}
-use Rattle.floor_lines.proofs.Reasons.{one-unset, some-unset}
+use Rattle.floor_reasons.proofs.Reasons.{one-unset, some-unset}
 use borrow.Author.Needs.{needs}
-use Rattle.floor_lines.proofs.put_unset_reason.Statement.{statement}
-use Rattle.floor_lines.proofs.put_unset_reason.Tie as tie
+use Rattle.floor_reasons.proofs.put_unset_reason.Statement.{statement}
+use Rattle.floor_reasons.proofs.put_unset_reason.Tie as tie
 
 returns : tie.Need-returns
 returns c = puts-as (one-unset _ (eq-eqb _ _ (c .before .before .before .before .before .if1 .taken))) (c .before .before .put .ensures)

@@ -1,0 +1,2 @@
+-- The reasons by the code's tests.
+pub mod Reasons

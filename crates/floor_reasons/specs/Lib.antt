@@ -1,0 +1,2 @@
+-- Why the floor is what it is.
+pub mod Reasons

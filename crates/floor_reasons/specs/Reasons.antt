@@ -1,0 +1,36 @@
+-- WHY THE FLOOR OF A BIT PATTERN b IS WHAT IT IS, in words: docs/SPECIFICATION.md, "The floor on paper". Definitions only.
+use mathlib.Core.Bool.{Bool, cond}
+use mathlib.Core.List.{List, _++_}
+use Prim.Native.Nat.{ℕ}
+use lib.Dec.{eqb}
+use lib.Ieee.{lt}
+use Rattle.exact.specs.Binary32.{bits, zero₃₂}
+use Rattle.text.specs.Text.{ascii}
+use Rattle.numerals.specs.Spelled.{decimalOf}
+
+-- At an exponent below 0.
+unfoldable pub smallReason : ℕ → List ℕ
+smallReason b = cond (lt (bits b) zero₃₂) (ascii "-1, since x is below 0\n") (ascii "+0, since x is not below 0\n")
+
+-- At an exponent from 0 to 22: k bits are cleared.
+unfoldable pub clearedReason : ℕ → List ℕ
+clearedReason k =
+    cond (eqb k 1) (ascii "the lowest bit of the fraction is cleared\n")
+    (ascii "the low " ++ decimalOf k ++ ascii " bits of the fraction are cleared\n")
+
+-- One of them was set, or none was.
+unfoldable pub setReason : ℕ → List ℕ
+setReason k =
+    cond (eqb k 1) (ascii "less 1, since x is below 0 and it was set\n")
+    (ascii "less 1, since x is below 0 and one of them was set\n")
+
+unfoldable pub unsetReason : ℕ → List ℕ
+unsetReason k =
+    cond (eqb k 1) (ascii "and that is all, since it was not set\n")
+    (ascii "and that is all, since none of them was set\n")
+
+-- Whether 1 is taken off: x is below 0, and one of them was set.
+unfoldable pub stepReason : ℕ → Bool → ℕ → List ℕ
+stepReason k some b =
+    cond (lt (bits b) zero₃₂) (cond some (setReason k) (unsetReason k))
+    (ascii "and that is all, since x is not below 0\n")
