@@ -16,11 +16,12 @@ sheet: page io libc
 parameters: text
 compare: text
 heights: text
+floor_working: text
 checklist: lists
 juvrada: lists
 alone:
 END
-for crate in lists text page sheet parameters compare heights checklist juvrada alone; do
+for crate in lists text page sheet parameters compare heights floor_working checklist juvrada alone; do
   mkdir -p "$checkout/crates/$crate/src" "$checkout/crates/$crate/must-fail"
   echo "$crate" >"$checkout/crates/$crate/src/lib.rt"
 done
@@ -55,7 +56,7 @@ case $* in
 'check sheet') crates='lists text page sheet' ;;
 'check parameters') crates='lists text parameters' ;;
 'check compare') crates='lists text compare' ;;
-check) crates='alone lists checklist juvrada text compare heights parameters page sheet' ;;
+check) crates='alone lists checklist juvrada text compare heights floor_working parameters page sheet' ;;
 'staticlib juvrada') cp "$stand/version" target/staticlib/libjuvrada.a; exit ;;
 *) exit 3 ;;
 esac
@@ -63,7 +64,7 @@ for crate in $crates; do
   echo "a line of the prover"
   case $crate in lists) echo "rt: lists proved (unchanged since it was last proved)" ;; *) echo "rt: $crate proved (2 s)" ;; esac
   case $crate in
-  sheet | parameters | compare | heights | checklist)
+  sheet | parameters | compare | heights | floor_working | checklist)
     [ -e "target/stamp/$crate" ] && [ "$(cat "target/stamp/$crate")" = "$(cat crates/*/src/lib.rt)" ] || cp "$real/bin/$crate" target/bin/
     cat crates/*/src/lib.rt >"target/stamp/$crate"
     ;;
@@ -169,12 +170,13 @@ PATH=$stand/bin:$usual
 run "$door" build
 expect "build: status $got" [ "$got" -eq 0 ]
 expect "build ran: $(cat "$stand/log")" [ "$(cat "$stand/log")" = $'check\nstaticlib juvrada' ]
-expect "build says: $(head -n 1 err)" eval 'head -n 1 err | grep -q "^juvrada: build: everything, 10 steps" && grep -q "^juvrada: build: 10 of 10, " err'
+expect "build says: $(head -n 1 err)" eval 'head -n 1 err | grep -q "^juvrada: build: everything, 11 steps" && grep -q "^juvrada: build: 11 of 11, " err'
 : >"$stand/log"
 same sheet-example 0 "$door" sheet example
 same parameters-example 0 "$door" parameters example
 same compare-different 1 "$door" compare example changed
 same heights-lfo 0 "$door" heights example 3 17
+same floor-0xc0200000 0 "$door" floor 0xc0200000
 same check 0 "$door" check
 expect "a command built again what build had built" [ ! -s "$stand/log" ]
 run "$door" build

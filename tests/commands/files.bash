@@ -49,6 +49,7 @@ unwritable "$juvrada" compare example example
 unwritable "$juvrada" compare -q example example
 unwritable "$juvrada" compare --svg example changed
 unwritable "$juvrada" heights example 3
+unwritable "$juvrada" floor 0x1
 unwritable "$juvrada" check
 unwritable "$juvrada" --help
 unwritable "$juvrada" --version
@@ -97,6 +98,7 @@ refused "\\\\x0a: no such file; $block" "$juvrada" sheet '\x0a'
 refused "no command 'a\\x0ab' $hint" "$juvrada" $'a\nb'
 refused "no option '-\\x07' $hint" "$juvrada" sheet $'-\a'
 refused "code '3\\x0a': expected a number from 0 to 13" "$juvrada" heights example $'3\n'
+refused "floor: '0x1\\x0a': expected a bit pattern of an f32, 0x and 1 to 8 hexadecimal digits" "$juvrada" floor $'0x1\n'
 refused "100%s and \$HOME: no such file; $block" "$juvrada" sheet "100%s and \$HOME"
 refused "\\xc3\\xbcber: no such file; $block" "$juvrada" sheet $'\303\274ber'
 if locale -a 2>/dev/null | grep -qi '^C.utf-\{0,1\}8$'; then

@@ -4,10 +4,9 @@ use Rattle.text.specs.Text.{ascii}
 use Rattle.numerals.specs.Spelled.{glyphOf, digitsOf, hexOf}
 use Rattle.bit_fields.specs.Pattern.{fieldsText, patternText}
 
--- -2.5
-pattern : patternText 0xc020_0000 ≡ ascii "0xc0200000  1 10000000 01000000000000000000000"
+minus-two-and-a-half : patternText 0xc020_0000 ≡ ascii "0xc0200000  1 10000000 01000000000000000000000"
 unfolding patternText fieldsText hexOf digitsOf glyphOf
-pattern = refl
+minus-two-and-a-half = refl
 
 -- each field from its first bit to its last
 ends : patternText 0x40c0_0001 ≡ ascii "0x40c00001  0 10000001 10000000000000000000001"
