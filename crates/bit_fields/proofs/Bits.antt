@@ -28,7 +28,11 @@ unfolding glyphOf
 bit-glyph d h = let l : d < 10 = omega arith in rw (lt-ltb d 10 l)
 
 bit-at : (n k : ℕ) → k < 32 → glyphOf (n / 2 ^ k % 2) ≡ 48 + n / shifted k % 2
-bit-at n k h = let two : 0 < 2 = omega arith in bit-glyph (n / 2 ^ k % 2) (mod-lt (n / 2 ^ k) two) ∙ ap (λ (p : ℕ). 48 + n / p % 2) (sym (shifted-is k h))
+bit-at n k h =
+    let two : 0 < 2 = omega arith in
+    bit-glyph (n / 2 ^ k % 2) (mod-lt (n / 2 ^ k) two) ∙ ap (λ (p : ℕ). 48 + n / p % 2) (sym (shifted-is k h))
 
-pub bit-less : {b b₁ b₂ x : List ℕ} {p p₁ p₂ : ℕ} (left n : ℕ) → 0 < left → left ≤ 32 → Left b p x b₁ p₁ (digitsOf 2 left n) → Puts b₁ p₁ ((48 + n / shifted (left - 1) % 2) ∷ []) b₂ p₂ → Left b p x b₂ p₂ (digitsOf 2 (left - 1) n)
+pub bit-less : {b b₁ b₂ x : List ℕ} {p p₁ p₂ : ℕ} (left n : ℕ) → 0 < left → left ≤ 32
+    → Left b p x b₁ p₁ (digitsOf 2 left n) → Puts b₁ p₁ ((48 + n / shifted (left - 1) % 2) ∷ []) b₂ p₂
+    → Left b p x b₂ p₂ (digitsOf 2 (left - 1) n)
 bit-less left n h l f q = left-less (rw (digits-front 2 left n h, bit-at n (left - 1) (omega arith)) at f) q

@@ -1,4 +1,4 @@
-// The bit pattern of an f32 as text: in hexadecimal digits, and as sign, field of the exponent and fraction, bit by bit.
+// The bit pattern of an f32 as text: hexadecimal digits, then sign, field of the exponent and fraction, bit by bit.
 ghost use Prim.Native.Nat.{_≤_};
 ghost use Rattle.text.specs.Text.{Puts};
 ghost use Rattle.numerals.specs.Spelled.{digitsOf};

@@ -1,12 +1,11 @@
--- THE CASE BY THE FIELD of a pattern; the floor that is written below exponent 23; the pattern with low bits cleared. Assumes nothing.
-use mathlib.Core.Path.{_≡_, refl, sym, ap, _∙_}
-use mathlib.Core.Bool.{Bool, true, false, cond, not}
+-- THE CASE BY THE FIELD of a pattern, the floor as a number below exponent 23, and the k lowest bits. Assumes nothing.
+use mathlib.Core.Path.{_≡_, refl, sym, ap}
+use mathlib.Core.Bool.{Bool, true, false, not}
 use mathlib.Core.List.{List}
 use Prim.Native.Nat.{ℕ, _-_, _%_, _≤_, _<_}
 use native.Mathlib.Omega.{arith}
 use borrow.Author.Tests.{lt-ltb, le-ltb, ltb-true, ltb-false}
 use lib.Dec.{eqb, ltb}
-use lib.IntN.{ℤ}
 use Rattle.exact.specs.Fraction.{floorℚ}
 use Rattle.exact.specs.Value.{value}
 use Rattle.exact.specs.Binary32.{bits}
@@ -18,20 +17,19 @@ use Rattle.floor_reasons.specs.Reasons.{stepReason}
 use Rattle.floor_lines.specs.Lines.{lineOf, smallText, cutText, largeText, caseText}
 
 pub small-case : (b : ℕ) → field b < 127 → smallText b ≡ caseText (exponent b) b
-small-case b h = sym (ap (λ (z : ℤ). caseText z b) (exponent-below b h))
+small-case b h = rw (exponent-below b h)
 
 pub cut-case : (b : ℕ) → 127 ≤ field b → field b < 150 → cutText (150 - field b) b ≡ caseText (exponent b) b
 cut-case b h l =
     let k : 150 - field b ≡ 23 - (field b - 127) = omega arith in
     let u : field b - 127 < 23 = omega arith in
-    ap (λ (n : ℕ). cutText n b) k
-    ∙ sym (ap (λ (z : ℤ). caseText z b) (exponent-from b h) ∙ ap (λ (t : Bool). cond t (cutText (23 - (field b - 127)) b) (largeText b)) (lt-ltb (field b - 127) 23 u))
+    rw (exponent-from b h, lt-ltb (field b - 127) 23 u, k)
 
 pub large-case : (b : ℕ) → 150 ≤ field b → largeText b ≡ caseText (exponent b) b
 large-case b h =
     let l : 127 ≤ field b = omega arith in
     let u : 23 ≤ field b - 127 = omega arith in
-    sym (ap (λ (z : ℤ). caseText z b) (exponent-from b l) ∙ ap (λ (t : Bool). cond t (cutText (23 - (field b - 127)) b) (largeText b)) (le-ltb (field b - 127) 23 u))
+    rw (exponent-from b l, le-ltb (field b - 127) 23 u)
 
 -- below exponent 23 the floor is written as a whole number
 pub number-is : (b : ℕ) → field b < 150 → numberText b ≡ wholeText (floorℚ (value (bits b)))

@@ -18,7 +18,8 @@ cut : workingText 0xc020_0000 ≡
     ++ ascii "cleared  0xc0000000  1 10000000 00000000000000000000000\n"
     ++ ascii "less 1, since x is below 0 and one of them was set\n"
     ++ ascii "floor    0xc0400000  1 10000000 10000000000000000000000  -3\n"
-unfolding workingText cutText clearedReason setReason stepReason floorLine headOf lineOf wholeText patternText fieldsText hexOf decimalOf digitsOf placesFrom glyphOf floorOf value ofBits toBits ofInt lt
+unfolding workingText cutText clearedReason setReason stepReason floorLine headOf lineOf wholeText patternText
+    fieldsText hexOf decimalOf digitsOf placesFrom glyphOf floorOf value ofBits toBits ofInt lt
 cut = refl
 
 -- -8388607.5
@@ -28,7 +29,8 @@ one : workingText 0xcaff_ffff ≡
     ++ ascii "cleared  0xcafffffe  1 10010101 11111111111111111111110\n"
     ++ ascii "less 1, since x is below 0 and it was set\n"
     ++ ascii "floor    0xcb000000  1 10010110 00000000000000000000000  -8388608\n"
-unfolding workingText cutText clearedReason setReason stepReason floorLine headOf lineOf wholeText patternText fieldsText hexOf decimalOf digitsOf placesFrom glyphOf floorOf value ofBits toBits ofInt lt
+unfolding workingText cutText clearedReason setReason stepReason floorLine headOf lineOf wholeText patternText
+    fieldsText hexOf decimalOf digitsOf placesFrom glyphOf floorOf value ofBits toBits ofInt lt
 one = refl
 
 -- -0.25
@@ -36,7 +38,8 @@ small : workingText 0xbe80_0000 ≡
     ascii "x        0xbe800000  1 01111101 00000000000000000000000\n"
     ++ ascii "exponent -2, below 0: -1, since x is below 0\n"
     ++ ascii "floor    0xbf800000  1 01111111 00000000000000000000000  -1\n"
-unfolding workingText smallText smallReason floorLine headOf lineOf wholeText patternText fieldsText hexOf decimalOf digitsOf placesFrom glyphOf floorOf value ofBits toBits ofInt lt
+unfolding workingText smallText smallReason floorLine headOf lineOf wholeText patternText
+    fieldsText hexOf decimalOf digitsOf placesFrom glyphOf floorOf value ofBits toBits ofInt lt
 small = refl
 
 -- a NaN
@@ -44,5 +47,6 @@ large : workingText 0x7fc0_0001 ≡
     ascii "x        0x7fc00001  0 11111111 10000000000000000000001\n"
     ++ ascii "exponent 128, 23 or more: x itself\n"
     ++ ascii "floor    0x7fc00001  0 11111111 10000000000000000000001\n"
-unfolding workingText largeText headOf lineOf wholeText patternText fieldsText hexOf decimalOf digitsOf placesFrom glyphOf
+unfolding workingText largeText headOf lineOf wholeText patternText
+    fieldsText hexOf decimalOf digitsOf placesFrom glyphOf
 large = refl

@@ -1,4 +1,5 @@
-// The floor of one f32, worked as on paper: its bit pattern, the case of its exponent, and what follows. Every pattern is taken, a NaN's too.
+// The floor of one f32, worked as on paper: its bit pattern, the case of its exponent, and what follows.
+// Every pattern is taken, a NaN's too.
 ghost use mathlib.Core.Path.{_≡_};
 ghost use Prim.Native.Nat.{_+_, _/_, _%_, _^_, _<_, _≤_};
 ghost use Rattle.floor.specs.Exponent.{exponent};

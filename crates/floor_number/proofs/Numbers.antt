@@ -1,7 +1,8 @@
--- THE FLOOR OF A PATTERN AS A WHOLE NUMBER, and its text: at an exponent below 0, and where k bits of the fraction stand below the point. Assumes nothing.
+-- THE FLOOR OF A PATTERN AS A WHOLE NUMBER, and its text: at an exponent below 0,
+-- and where k bits of the fraction stand below the point. Assumes nothing.
 use mathlib.Core.Path.{_≡_, refl, sym, ap, _∙_, subst}
 use mathlib.Core.Bool.{Bool, true, false, cond, false≢true, true≢false}
-use mathlib.Core.List.{List, _++_}
+use mathlib.Core.List.{_++_}
 use Prim.Native.Nat.{ℕ, zero, suc, _+_, _-_, _*_, _/_, _%_, _^_, _≤_, _<_}
 use native.Mathlib.Nat.{mod-lt, div-add-mod', div-eq-of-lt-le, div-le-self, le-trans}
 use native.Mathlib.Numerals.{add-one}
@@ -39,12 +40,15 @@ minus-of : (n d q : ℕ) → q * d < n → n ≤ suc q * d → floorOver (negℤ
 minus-of zero d q l h = absurd (omega arith)
 minus-of (suc n) d q l h = ap negsuc (div-eq-of-lt-le d (omega arith) (omega arith))
 
-whole-of-minus : (x : Float) (a c q : ℕ) → 0 < c → HasValue x true a c → q * c < a → a ≤ suc q * c → floorℚ (value x) ≡ negsuc q
+whole-of-minus : (x : Float) (a c q : ℕ) → 0 < c → HasValue x true a c
+    → q * c < a → a ≤ suc q * c → floorℚ (value x) ≡ negsuc q
 unfolding value
 whole-of-minus nan a c q C v l h = absurd v
 whole-of-minus (inf t) a c q C v l h = absurd v
 whole-of-minus (fin false m e) a c q C (s, v) l h = absurd (false≢true s)
-whole-of-minus (fin true m e) a c q C (s, v) l h = minus-of (m * up e) (down e) q (over (m * up e) (down e) a c (down-pos e) C v q l) (to (m * up e) (down e) a c (down-pos e) C v (suc q) h)
+whole-of-minus (fin true m e) a c q C (s, v) l h =
+    let n = m * up e in
+    minus-of n (down e) q (over n (down e) a c (down-pos e) C v q l) (to n (down e) a c (down-pos e) C v (suc q) h)
 
 -- ---- an exponent below 0: the number that -1 holds, or +0
 minus-one : (z : ℤ) → Whole (neg one₃₂) z → z ≡ negsuc 0
@@ -57,22 +61,27 @@ unfolding ofBits
 nothing (negsuc n) w = absurd (false≢true (w .0))
 nothing (pos n) w = ap pos (omega (arith, w .1))
 
-held : (x : Float) (s : Bool) (a c : ℕ) → T (fits binary32 x) → HasValue x s a c → Whole (floorOf x) (floorℚ (value x))
+held : (x : Float) (s : Bool) (a c : ℕ) → T (fits binary32 x) → HasValue x s a c
+    → Whole (floorOf x) (floorℚ (value x))
 held nan s a c f v = absurd v
 held (inf t) s a c f v = absurd v
 held (fin t m e) s a c f v = floor-exact (fin t m e) f tt
 
-small-whole : (b : ℕ) → field b < 127 → (t : Bool) → lt (bits b) zero₃₂ ≡ t → Whole (cond t (neg one₃₂) zero₃₂) (floorℚ (value (bits b)))
+small-whole : (b : ℕ) → field b < 127 → (t : Bool) → lt (bits b) zero₃₂ ≡ t
+    → Whole (cond t (neg one₃₂) zero₃₂) (floorℚ (value (bits b)))
 small-whole b h t e =
     let w = small-value b h in
-    subst (λ (y : Float). Whole y (floorℚ (value (bits b)))) (by-field-small b h ∙ ap (λ (n : Bool). cond n (neg one₃₂) zero₃₂) e)
+    subst (λ (y : Float). Whole y (floorℚ (value (bits b))))
+    (by-field-small b h ∙ ap (λ (n : Bool). cond n (neg one₃₂) zero₃₂) e)
     (held (bits b) (sign b) (w .0) (2 ^ 149) (ofBits-fits binary32 b) (w .1))
 
-pub small-minus : (b : ℕ) → field b < 127 → lt (bits b) zero₃₂ ≡ true → ascii "-1" ≡ wholeText (floorℚ (value (bits b)))
+pub small-minus : (b : ℕ) → field b < 127 → lt (bits b) zero₃₂ ≡ true
+    → ascii "-1" ≡ wholeText (floorℚ (value (bits b)))
 unfolding wholeText decimalOf digitsOf placesFrom glyphOf
 small-minus b h e = sym (ap wholeText (minus-one (floorℚ (value (bits b))) (small-whole b h true e)))
 
-pub small-nothing : (b : ℕ) → field b < 127 → lt (bits b) zero₃₂ ≡ false → ascii "0" ≡ wholeText (floorℚ (value (bits b)))
+pub small-nothing : (b : ℕ) → field b < 127 → lt (bits b) zero₃₂ ≡ false
+    → ascii "0" ≡ wholeText (floorℚ (value (bits b)))
 unfolding wholeText decimalOf digitsOf placesFrom glyphOf
 small-nothing b h e = sym (ap wholeText (nothing (floorℚ (value (bits b))) (small-whole b h false e)))
 
@@ -100,22 +109,31 @@ module _ (b k : ℕ) (p : 0 < k) (h : k ≤ 23) (f : field b + k ≡ 150) where
   some : 2 ^ k ≤ digits b
   some = le-trans (pow-mono h) (omega arith)
 
-  minus : 2 ^ 31 ≤ b → (q : ℕ) → q * 2 ^ k < digits b → digits b ≤ suc q * 2 ^ k → floorℚ (value (bits b)) ≡ negsuc q
-  minus s q l u = whole-of-minus (bits b) (digits b) (2 ^ k) q (pow-pos k) (subst (λ (t : Bool). HasValue (bits b) t (digits b) (2 ^ k)) (le-leb (2 ^ 31) b s) (cut-value b k p h f)) l u
+  -- the value, by its sign
+  valued : (t : Bool) → sign b ≡ t → HasValue (bits b) t (digits b) (2 ^ k)
+  valued t s = subst (λ (t : Bool). HasValue (bits b) t (digits b) (2 ^ k)) s (cut-value b k p h f)
+
+  minus : 2 ^ 31 ≤ b → (q : ℕ) → q * 2 ^ k < digits b → digits b ≤ suc q * 2 ^ k
+      → floorℚ (value (bits b)) ≡ negsuc q
+  minus s q l u = whole-of-minus (bits b) (digits b) (2 ^ k) q (pow-pos k) (valued true (le-leb (2 ^ 31) b s)) l u
 
   -- not below 0
   pub plus-text : b < 2 ^ 31 → decimalOf (digits b / shifted k) ≡ wholeText (floorℚ (value (bits b)))
   unfolding wholeText
   plus-text s =
-      ap (λ (n : ℕ). decimalOf (digits b / n)) power
-      ∙ sym (ap wholeText (whole-of (bits b) (digits b) (2 ^ k) (pow-pos k) (subst (λ (t : Bool). HasValue (bits b) t (digits b) (2 ^ k)) (lt-leb (2 ^ 31) b s) (cut-value b k p h f))))
+      let v = whole-of (bits b) (digits b) (2 ^ k) (pow-pos k) (valued false (lt-leb (2 ^ 31) b s)) in
+      ap (λ (n : ℕ). decimalOf (digits b / n)) power ∙ sym (ap wholeText v)
 
   -- below 0, and none of the bits is set
-  pub minus-text : 2 ^ 31 ≤ b → b % shifted k ≡ 0 → ascii "-" ++ decimalOf (digits b / shifted k) ≡ wholeText (floorℚ (value (bits b)))
+  pub minus-text : 2 ^ 31 ≤ b → b % shifted k ≡ 0
+      → ascii "-" ++ decimalOf (digits b / shifted k) ≡ wholeText (floorℚ (value (bits b)))
   unfolding wholeText
-  minus-text s z = ap (λ (n : ℕ). ascii "-" ++ decimalOf (digits b / n)) power ∙ go quotient refl parts (subst (λ (n : ℕ). b % n ≡ 0) power z)
+  minus-text s z =
+      ap (λ (n : ℕ). ascii "-" ++ decimalOf (digits b / n)) power
+      ∙ go quotient refl parts (subst (λ (n : ℕ). b % n ≡ 0) power z)
     where
-      go : (q : ℕ) → quotient ≡ q → q * 2 ^ k + b % 2 ^ k ≡ digits b → b % 2 ^ k ≡ 0 → ascii "-" ++ decimalOf quotient ≡ wholeText (floorℚ (value (bits b)))
+      go : (q : ℕ) → quotient ≡ q → q * 2 ^ k + b % 2 ^ k ≡ digits b → b % 2 ^ k ≡ 0
+          → ascii "-" ++ decimalOf quotient ≡ wholeText (floorℚ (value (bits b)))
       go zero e g z = absurd (omega (arith, some, pow-pos k))
       go (suc q) e g z =
           let l : q * 2 ^ k < digits b = omega (arith, pow-pos k) in
@@ -123,10 +141,13 @@ module _ (b k : ℕ) (p : 0 < k) (h : k ≤ 23) (f : field b + k ≡ 150) where
           ap (λ (n : ℕ). ascii "-" ++ decimalOf n) e ∙ sym (ap wholeText (minus s q l u))
 
   -- below 0, and one of them is
-  pub down-text : 2 ^ 31 ≤ b → 0 < b % shifted k → ascii "-" ++ decimalOf (digits b / shifted k + 1) ≡ wholeText (floorℚ (value (bits b)))
+  pub down-text : 2 ^ 31 ≤ b → 0 < b % shifted k
+      → ascii "-" ++ decimalOf (digits b / shifted k + 1) ≡ wholeText (floorℚ (value (bits b)))
   unfolding wholeText
   down-text s z =
       let r : 0 < b % 2 ^ k = subst (λ (n : ℕ). 0 < b % n) power z in
       let l : quotient * 2 ^ k < digits b = omega (arith, parts) in
       let u : digits b ≤ suc quotient * 2 ^ k = omega (arith, parts, mod-lt b (pow-pos k)) in
-      ap (λ (n : ℕ). ascii "-" ++ decimalOf (digits b / n + 1)) power ∙ ap (λ (n : ℕ). ascii "-" ++ decimalOf n) (add-one quotient) ∙ sym (ap wholeText (minus s quotient l u))
+      ap (λ (n : ℕ). ascii "-" ++ decimalOf (digits b / n + 1)) power
+      ∙ ap (λ (n : ℕ). ascii "-" ++ decimalOf n) (add-one quotient)
+      ∙ sym (ap wholeText (minus s quotient l u))

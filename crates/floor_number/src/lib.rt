@@ -1,4 +1,4 @@
-// Whole numbers about the floor of a bit pattern, as text: the exponent, and the floor itself where bits may stand below the point.
+// Whole numbers about the floor of a bit pattern, as text: the exponent, and the floor itself below exponent 23.
 ghost use mathlib.Core.Path.{_≡_};
 ghost use mathlib.Core.List.{_++_};
 ghost use Prim.Native.Nat.{_+_, _/_, _%_, _^_, _<_, _≤_};
@@ -52,7 +52,8 @@ fn put_small(out: &mut [u8], at: usize, b: u32) -> usize
     put(out, at, b"0")
 }
 
-// The floor where k bits of the fraction stand below the point: the others as a whole number, of a number below 0 one more where a bit is lost.
+// The floor where k bits of the fraction stand below the point: the size that the others make,
+// and of a number below 0 one more where one of the k is set.
 fn put_cut(out: &mut [u8], at: usize, b: u32, k: u32) -> usize
     requires { ⌜ (0 < k) × (k ≤ 23) × (b % 2 ^ 31 / 2 ^ 23 + k ≡ 150) ⌝ }
     ensures { λ r. ⌜ Puts (now (out .entry)) at (wholeText (floorℚ (value (bits b)))) (now (out .exit)) r ⌝ }

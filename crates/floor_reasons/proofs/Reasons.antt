@@ -24,7 +24,8 @@ pub one-cleared : (k : ℕ) → eqb k 1 ≡ true → ascii "the lowest bit of th
 unfolding clearedReason
 one-cleared k h = rw h
 
-pub some-cleared : (k : ℕ) → eqb k 1 ≡ false → ascii "the low " ++ decimalOf k ++ ascii " bits of the fraction are cleared\n" ≡ clearedReason k
+pub some-cleared : (k : ℕ) → eqb k 1 ≡ false
+    → ascii "the low " ++ decimalOf k ++ ascii " bits of the fraction are cleared\n" ≡ clearedReason k
 unfolding clearedReason
 some-cleared k h = rw h
 
@@ -54,6 +55,7 @@ module _ (b k : ℕ) (some : Bool) where
   unfolding stepReason
   step-unset h f = rw (h, f)
 
-  pub step-above : lt (bits b) zero₃₂ ≡ false → ascii "and that is all, since x is not below 0\n" ≡ stepReason k some b
+  pub step-above : lt (bits b) zero₃₂ ≡ false
+      → ascii "and that is all, since x is not below 0\n" ≡ stepReason k some b
   unfolding stepReason
   step-above h = rw h

@@ -1,4 +1,4 @@
--- WHY THE FLOOR OF A BIT PATTERN b IS WHAT IT IS, in words: docs/SPECIFICATION.md, "The floor on paper". Definitions only.
+-- WHY THE FLOOR OF A PATTERN b IS WHAT IT IS, in words: docs/SPECIFICATION.md, "The floor on paper". Definitions only.
 use mathlib.Core.Bool.{Bool, cond}
 use mathlib.Core.List.{List, _++_}
 use Prim.Native.Nat.{ℕ}

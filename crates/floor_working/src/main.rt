@@ -1,4 +1,4 @@
-// Prints the floor of one f32, worked as on paper: the argument is its bit pattern. What is none prints one line, `refused`.
+// Prints the floor of one f32, worked as on paper. The argument is its bit pattern; of anything else it prints `refused`.
 use floor_lines::put_working;
 use hex_reading::Pattern;
 use hex_reading::read_pattern;

@@ -12,7 +12,8 @@ use Rattle.bit_fields.proofs.put_bits.Statement.{statement}
 use Rattle.bit_fields.proofs.put_bits.Tie as tie
 
 abbrev Inv-loop : tie.InvT-loop
-Inv-loop out₀ at n count next₀ left₀ out next left = (left ≤ count) × (length out ≡ length out₀) × Left out₀ at (digitsOf 2 count n) out next (digitsOf 2 left n)
+Inv-loop out₀ at n count next₀ left₀ out next left =
+    (left ≤ count) × (length out ≡ length out₀) × Left out₀ at (digitsOf 2 count n) out next (digitsOf 2 left n)
 
 abbrev μ-loop : tie.MeasureT-loop
 μ-loop out₀ at n count next₀ left₀ out next left = left

@@ -20,6 +20,6 @@ returns c =
 
 pub put-cut-spec : {M : Type 1} → statement M
 put-cut-spec =
-    tie.close (tie.spec (λ c. search needs) (λ c. shifted-pos _ (omega arith)) (λ c. search needs) (λ c κs. search needs)
-    (λ c κs. search needs) (λ c. search needs) (λ c. mod-le _ _) (λ c κs. search needs) (λ c κs. search needs)
-    (λ c κs. search needs) (λ c. search needs) returns)
+    tie.close (tie.spec (λ c. search needs) (λ c. shifted-pos _ (omega arith)) (λ c. search needs)
+    (λ c κs. search needs) (λ c κs. search needs) (λ c. search needs) (λ c. mod-le _ _) (λ c κs. search needs)
+    (λ c κs. search needs) (λ c κs. search needs) (λ c. search needs) returns)

@@ -7,4 +7,5 @@ use Rattle.floor_working.proofs.print_first.Tie as tie
 
 pub print-first-spec : {M : Type 1} → statement M
 print-first-spec =
-    tie.close (tie.spec (λ c. sym (length-take-le _ _ (search needs))) (λ c κs. search needs) (λ c. search needs) (λ c. search needs))
+    tie.close (tie.spec (λ c. sym (length-take-le _ _ (search needs))) (λ c κs. search needs) (λ c. search needs)
+    (λ c. search needs))

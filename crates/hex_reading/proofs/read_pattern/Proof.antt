@@ -41,4 +41,5 @@ returns-5 c =
 
 pub read-pattern-spec : {M : Type 1} → statement M
 read-pattern-spec =
-    tie.close (tie.spec returns returns-2 (λ c. search needs) returns-3 (λ c. search needs) returns-4 (λ c κs. search needs) returns-5)
+    tie.close (tie.spec returns returns-2 (λ c. search needs) returns-3 (λ c. search needs) returns-4
+    (λ c κs. search needs) returns-5)
