@@ -1,14 +1,14 @@
--- One bit less: what stands at a place of a number, as the code has it and as `digitsOf` does. Assumes nothing.
+-- The bit at a place of a number, as the code has it and as `digitsOf` does; and one bit less to put. Assumes nothing.
 use mathlib.Core.Path.{_≡_, sym, ap, _∙_, subst}
 use mathlib.Core.List.{List, [], _∷_}
-use Prim.Native.Nat.{ℕ, _+_, _-_, _*_, _/_, _%_, _^_, _≤_, _<_}
+use Prim.Native.Nat.{ℕ, _+_, _-_, _*_, _/_, _%_, _^_, _<_}
 use native.Mathlib.Nat.{one-mul, mod-lt}
 use native.Mathlib.Omega.{arith}
 use borrow.Author.Tests.{lt-ltb}
 use lib.Dec.{lit<}
 use lib.Pow.{pow-pos, shl-exact}
 use Rattle.text.specs.Text.{Puts}
-use Rattle.text.proofs.Writing.{Left, left-less}
+use Rattle.text.proofs.Writing.{Left, left-less, puts-as}
 use Rattle.numerals.specs.Spelled.{glyphOf, digitsOf}
 use Rattle.numerals.proofs.Digits.{digits-front}
 
@@ -32,7 +32,10 @@ bit-at n k h =
     let two : 0 < 2 = omega arith in
     bit-glyph (n / 2 ^ k % 2) (mod-lt (n / 2 ^ k) two) ∙ ap (λ (p : ℕ). 48 + n / p % 2) (sym (shifted-is k h))
 
-pub bit-less : {b b₁ b₂ x : List ℕ} {p p₁ p₂ : ℕ} (left n : ℕ) → 0 < left → left ≤ 32
-    → Left b p x b₁ p₁ (digitsOf 2 left n) → Puts b₁ p₁ ((48 + n / shifted (left - 1) % 2) ∷ []) b₂ p₂
-    → Left b p x b₂ p₂ (digitsOf 2 (left - 1) n)
-bit-less left n h l f q = left-less (rw (digits-front 2 left n h, bit-at n (left - 1) (omega arith)) at f) q
+pub bit-put : {b b₁ : List ℕ} {p p₁ : ℕ} (n k : ℕ) → k < 32
+    → Puts b p ((48 + n / shifted k % 2) ∷ []) b₁ p₁ → Puts b p (glyphOf (n / 2 ^ k % 2) ∷ []) b₁ p₁
+bit-put n k h f = puts-as (ap (λ (g : ℕ). g ∷ []) (sym (bit-at n k h))) f
+
+pub bit-less : {b b₁ b₂ x : List ℕ} {p p₁ p₂ : ℕ} (left n : ℕ) → 0 < left → Left b p x b₁ p₁ (digitsOf 2 left n)
+    → Puts b₁ p₁ (glyphOf (n / 2 ^ (left - 1) % 2) ∷ []) b₂ p₂ → Left b p x b₂ p₂ (digitsOf 2 (left - 1) n)
+bit-less left n h f q = left-less (rw (digits-front 2 left n h) at f) q

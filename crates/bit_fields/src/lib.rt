@@ -1,16 +1,26 @@
 // The bit pattern of an f32 as text: hexadecimal digits, then sign, field of the exponent and fraction, bit by bit.
-ghost use Prim.Native.Nat.{_≤_};
+ghost use mathlib.Core.List.{[], _∷_};
+ghost use Prim.Native.Nat.{_/_, _%_, _^_, _<_, _≤_};
 ghost use Rattle.text.specs.Text.{Puts};
-ghost use Rattle.numerals.specs.Spelled.{digitsOf};
+ghost use Rattle.numerals.specs.Spelled.{glyphOf, digitsOf};
 ghost use Rattle.bit_fields.specs.Pattern.{fieldsText, patternText};
 use numerals::put_hex;
 use text::put;
 use text::put_byte;
 
 // What the sign weighs, and one step of the exponent's field.
-const SIGN: u32 = 0x8000_0000;
+pub const SIGN: u32 = 0x8000_0000;
 
-const STEP: u32 = 0x80_0000;
+pub const STEP: u32 = 0x80_0000;
+
+// Bit k of a number.
+fn put_bit(out: &mut [u8], at: usize, n: u32, k: u32) -> usize
+    requires { ⌜ k < 32 ⌝ }
+    ensures { λ r. ⌜ Puts (now (out .entry)) at (glyphOf (n / 2 ^ k % 2) ∷ []) (now (out .exit)) r ⌝ }
+{
+    let bit = n / (1 << k) % 2;
+    put_byte(out, at, 48 + bit as u8)
+}
 
 // The last bits of a number, the most significant first.
 fn put_bits(out: &mut [u8], at: usize, n: u32, count: u32) -> usize
@@ -21,8 +31,7 @@ fn put_bits(out: &mut [u8], at: usize, n: u32, count: u32) -> usize
     let mut left = count;
     while left > 0 {
         left -= 1;
-        let bit = n / (1 << left) % 2;
-        next = put_byte(out, next, 48 + bit as u8);
+        next = put_bit(out, next, n, left);
     }
     next
 }

@@ -6,26 +6,20 @@ ghost use Rattle.floor.specs.Exponent.{exponent};
 ghost use Rattle.text.specs.Text.{Puts};
 ghost use Rattle.floor_lines.specs.Lines.{lineOf, headOf, floorLine};
 ghost use Rattle.floor_lines.specs.Lines.{smallText, cutText, largeText, caseText, workingText};
+use bit_fields::SIGN;
+use bit_fields::STEP;
 use bit_fields::put_pattern;
 use float_bits::float_of;
 use float_bits::word_of;
 use floor::floor;
+use floor_number::ONE;
+use floor_number::WHOLE;
 use floor_number::put_exponent;
 use floor_number::put_floor_number;
 use floor_reasons::put_cleared_reason;
 use floor_reasons::put_small_reason;
 use floor_reasons::put_step_reason;
 use text::put;
-
-// In a bit pattern: what the sign weighs, and one step of the exponent's field.
-const SIGN: u32 = 0x8000_0000;
-
-const STEP: u32 = 0x80_0000;
-
-// The fields of exponent 0 and of exponent 23.
-const ONE: u32 = 127;
-
-const WHOLE: u32 = 127 + 23;
 
 // A pattern on a line, behind what it is.
 fn put_line(out: &mut [u8], at: usize, name: &[u8], b: u32) -> usize

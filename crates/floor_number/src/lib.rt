@@ -9,19 +9,16 @@ ghost use Rattle.floor.specs.Exponent.{exponent};
 ghost use Rattle.text.specs.Text.{Puts, ascii};
 ghost use Rattle.numerals.specs.Spelled.{decimalOf};
 ghost use Rattle.floor_number.specs.Number.{wholeText, numberText};
+use bit_fields::SIGN;
+use bit_fields::STEP;
 use float_bits::float_of;
 use numerals::put_decimal;
 use text::put;
 
-// In a bit pattern: what the sign weighs, and one step of the exponent's field.
-const SIGN: u32 = 0x8000_0000;
-
-const STEP: u32 = 0x80_0000;
-
 // The fields of exponent 0 and of exponent 23.
-const ONE: u32 = 127;
+pub const ONE: u32 = 127;
 
-const WHOLE: u32 = 127 + 23;
+pub const WHOLE: u32 = 127 + 23;
 
 fn put_minus(out: &mut [u8], at: usize, size: u64) -> usize
     ensures { λ r. ⌜ Puts (now (out .entry)) at (ascii "-" ++ decimalOf size) (now (out .exit)) r ⌝ }

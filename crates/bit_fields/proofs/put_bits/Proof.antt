@@ -1,12 +1,11 @@
 -- `put_bits` puts `digitsOf` in base 2. The loop's invariant: the last bits are left to put. Assumes nothing.
 use mathlib.Core.Path.{_≡_}
 use Prim.Native.Nat.{_≤_}
-use native.Mathlib.Omega.{arith}
 use lib.ListN.{length}
 use Rattle.text.proofs.Writing.{Left, left-all, left-none}
 use Rattle.numerals.specs.Spelled.{digitsOf}
 use Rattle.numerals.proofs.Digits.{no-digits}
-use Rattle.bit_fields.proofs.Bits.{shifted-pos, bit-less}
+use Rattle.bit_fields.proofs.Bits.{bit-less}
 use borrow.Author.Needs.{needs}
 use Rattle.bit_fields.proofs.put_bits.Statement.{statement}
 use Rattle.bit_fields.proofs.put_bits.Tie as tie
@@ -21,16 +20,18 @@ abbrev μ-loop : tie.MeasureT-loop
 loop-holds : tie.Need-loop-holds Inv-loop μ-loop
 loop-holds c = (search needs, search needs, left-all)
 
-div-bit : tie.Need-div-bit Inv-loop μ-loop
-div-bit c = shifted-pos _ (omega arith)
-
 loop-again : tie.Need-loop-again Inv-loop μ-loop
-loop-again c = (search needs, search needs, bit-less _ _ (c .before .before .before .before .loop-test .taken) (omega arith) (c .before .before .before .before .before .loop .inv .2) (c .before .before .put-byte .ensures))
+loop-again c =
+    let l = c .before .before .before .before .before .loop .inv in (
+      search needs,
+      search needs,
+      bit-less _ _ (c .before .before .before .before .loop-test .taken) (l .2) (c .before .before .put-bit .ensures),
+    )
 
 returns : tie.Need-returns Inv-loop μ-loop
 returns c = left-none (rw (no-digits _ _ _ (c .loop-test .left)) at (c .before .loop .inv .2))
 
 pub put-bits-spec : {M : Type 1} → statement M
 put-bits-spec =
-    tie.close (tie.spec Inv-loop μ-loop loop-holds (λ c. search needs) (λ c. search needs) div-bit (λ c. search needs)
-    (λ c. search needs) (λ c κs. search needs) (λ c. search needs) loop-again (λ c. search needs) returns)
+    tie.close (tie.spec Inv-loop μ-loop loop-holds (λ c. search needs) (λ c κs. search needs) (λ c. search needs)
+    loop-again (λ c. search needs) returns)
