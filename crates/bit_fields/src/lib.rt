@@ -4,14 +4,11 @@ ghost use Prim.Native.Nat.{_/_, _%_, _^_, _<_, _≤_};
 ghost use Rattle.text.specs.Text.{Puts};
 ghost use Rattle.numerals.specs.Spelled.{glyphOf, digitsOf};
 ghost use Rattle.bit_fields.specs.Pattern.{fieldsText, patternText};
+use floor::FIELD;
+use floor::SIGN;
 use numerals::put_hex;
 use text::put;
 use text::put_byte;
-
-// What the sign weighs, and one step of the exponent's field.
-pub const SIGN: u32 = 0x8000_0000;
-
-pub const STEP: u32 = 0x80_0000;
 
 // Bit k of a number.
 fn put_bit(out: &mut [u8], at: usize, n: u32, k: u32) -> usize
@@ -42,7 +39,7 @@ fn put_fields(out: &mut [u8], at: usize, b: u32) -> usize
 {
     let mut next = put_bits(out, at, b / SIGN, 1);
     next = put(out, next, b" ");
-    next = put_bits(out, next, b / STEP, 8);
+    next = put_bits(out, next, b / FIELD, 8);
     next = put(out, next, b" ");
     put_bits(out, next, b, 23)
 }

@@ -2,15 +2,15 @@
 ghost use mathlib.Core.Path.{_≡_};
 ghost use Rattle.floor.specs.Formula.{floorOf};
 
-// In a bit pattern: what the sign weighs, and one step of the exponent's field.
-const SIGN: u32 = 0x8000_0000;
+// What the sign weighs in a bit pattern, and one step of the exponent's field.
+pub const SIGN: u32 = 0x8000_0000;
 
-const STEP: u32 = 0x80_0000;
+pub const FIELD: u32 = 0x80_0000;
 
 // The fields of exponent 0 and of exponent 23.
-const ONE: u32 = 127;
+pub const ONE: u32 = 127;
 
-const WHOLE: u32 = 127 + 23;
+pub const WHOLE: u32 = 127 + 23;
 
 // The largest whole number not above x, by the exponent of x: below 0 its size is less than 1, from 0 to 22 the lowest bits stand below the point, and from 23 on none does.
 pub fn floor(x: f32) -> f32
@@ -20,7 +20,7 @@ pub fn floor(x: f32) -> f32
         return x;
     }
     let bits: u32 = f32::to_bits(x);
-    let field = bits % SIGN / STEP;
+    let field = bits % SIGN / FIELD;
     if field < ONE {
         if x < 0.0 {
             return -1.0;

@@ -6,14 +6,14 @@ ghost use Rattle.floor.specs.Exponent.{exponent};
 ghost use Rattle.text.specs.Text.{Puts};
 ghost use Rattle.floor_lines.specs.Lines.{lineOf, headOf, floorLine};
 ghost use Rattle.floor_lines.specs.Lines.{smallText, cutText, largeText, caseText, workingText};
-use bit_fields::SIGN;
-use bit_fields::STEP;
 use bit_fields::put_pattern;
 use float_bits::float_of;
 use float_bits::word_of;
+use floor::FIELD;
+use floor::ONE;
+use floor::SIGN;
+use floor::WHOLE;
 use floor::floor;
-use floor_number::ONE;
-use floor_number::WHOLE;
 use floor_number::put_exponent;
 use floor_number::put_floor_number;
 use floor_reasons::put_cleared_reason;
@@ -86,7 +86,7 @@ fn put_large(out: &mut [u8], at: usize, b: u32) -> usize
 fn put_case(out: &mut [u8], at: usize, b: u32) -> usize
     ensures { λ r. ⌜ Puts (now (out .entry)) at (caseText (exponent b) b) (now (out .exit)) r ⌝ }
 {
-    let field = b % SIGN / STEP;
+    let field = b % SIGN / FIELD;
     if field < ONE {
         return put_small(out, at, b);
     }

@@ -9,16 +9,13 @@ ghost use Rattle.floor.specs.Exponent.{exponent};
 ghost use Rattle.text.specs.Text.{Puts, ascii};
 ghost use Rattle.numerals.specs.Spelled.{decimalOf};
 ghost use Rattle.floor_number.specs.Number.{wholeText, numberText};
-use bit_fields::SIGN;
-use bit_fields::STEP;
 use float_bits::float_of;
+use floor::FIELD;
+use floor::ONE;
+use floor::SIGN;
+use floor::WHOLE;
 use numerals::put_decimal;
 use text::put;
-
-// The fields of exponent 0 and of exponent 23.
-pub const ONE: u32 = 127;
-
-pub const WHOLE: u32 = 127 + 23;
 
 fn put_minus(out: &mut [u8], at: usize, size: u64) -> usize
     ensures { λ r. ⌜ Puts (now (out .entry)) at (ascii "-" ++ decimalOf size) (now (out .exit)) r ⌝ }
@@ -31,7 +28,7 @@ fn put_minus(out: &mut [u8], at: usize, size: u64) -> usize
 pub fn put_exponent(out: &mut [u8], at: usize, b: u32) -> usize
     ensures { λ r. ⌜ Puts (now (out .entry)) at (wholeText (exponent b)) (now (out .exit)) r ⌝ }
 {
-    let field = b % SIGN / STEP;
+    let field = b % SIGN / FIELD;
     if field < ONE {
         return put_minus(out, at, (ONE - field) as u64);
     }
@@ -56,7 +53,7 @@ fn put_cut(out: &mut [u8], at: usize, b: u32, k: u32) -> usize
     ensures { λ r. ⌜ Puts (now (out .entry)) at (wholeText (floorℚ (value (bits b)))) (now (out .exit)) r ⌝ }
 {
     let one = 1 << k;
-    let size = (STEP + b % STEP) / one;
+    let size = (FIELD + b % FIELD) / one;
     if b < SIGN {
         return put_decimal(out, at, size as u64);
     }
@@ -70,7 +67,7 @@ fn put_cut(out: &mut [u8], at: usize, b: u32, k: u32) -> usize
 pub fn put_floor_number(out: &mut [u8], at: usize, b: u32) -> usize
     ensures { λ r. ⌜ Puts (now (out .entry)) at (numberText b) (now (out .exit)) r ⌝ }
 {
-    let field = b % SIGN / STEP;
+    let field = b % SIGN / FIELD;
     if field < ONE {
         return put_small(out, at, b);
     }
