@@ -20,7 +20,7 @@ use Rattle.floor.specs.Formula.{floorOf}
 use Rattle.floor.specs.Exponent.{exponent, set, cleared, smallFloor, cutFloor, atExponent, byExponent}
 use Rattle.math.proofs.Whole.{Whole, negative, of-int, one-float, sum-whole}
 use Rattle.floor.proofs.FloorExact.{floor-zero, floor-minus, floor-large}
-use Rattle.floor.proofs.Patterns.{sign, field, digits, bits-is, normal-value, small-value, cut-value, low-digits, cleared-value, shifted, shifted-is}
+use Rattle.floor.proofs.Patterns.{sign, field, digits, bits-is, normal-value, small-value, cut-value, low-digits, cleared-value, weight-is}
 
 -- ---- the test of the sign
 pub not-below : (m : ℕ) (e : ℤ) → lt (fin false m e) zero₃₂ ≡ false
@@ -209,19 +209,23 @@ unfolding floorOf
 nan-at x h = subst (λ (y : Float). y ≡ floorOf y) (sym (differs-from-itself x (subst T (sym h) tt))) refl
 
 module _ (x : Float) (b : ℕ) (i : bits b ≡ x) where
+  abbrev weight : ℕ
+  weight = 2 ^ 23 / 2 ^ (field b - 127)
+
   pub small-at : field b < 127 → (t : Bool) → lt x zero₃₂ ≡ t → cond t (neg one₃₂) zero₃₂ ≡ floorOf x
   small-at h t e = sym (subst (λ (y : Float). floorOf y ≡ cond (lt y zero₃₂) (neg one₃₂) zero₃₂) i (by-field-small b h) ∙ ap (λ (n : Bool). cond n (neg one₃₂) zero₃₂) e)
 
-  pub cut-at : (k : ℕ) → 0 < k → k ≤ 23 → field b + k ≡ 150 → (t u : Bool) → lt x zero₃₂ ≡ t → eqb (b % shifted k) 0 ≡ u → cond (t && not u) (bits (b - b % shifted k) ⊖ one₃₂) (bits (b - b % shifted k)) ≡ floorOf x
-  cut-at k z h f t u e g =
+  pub cut-at : 127 ≤ field b → field b < 150 → (t u : Bool) → lt x zero₃₂ ≡ t → eqb (b % weight) 0 ≡ u → cond (t && not u) (bits (b - b % weight) ⊖ one₃₂) (bits (b - b % weight)) ≡ floorOf x
+  cut-at l h t u e g =
+      let k = 23 - (field b - 127) in
       sym
-      (subst (λ (p : ℕ). floorOf x ≡ cond (lt x zero₃₂ && not (eqb (b % p) 0)) (bits (b - b % p) ⊖ one₃₂) (bits (b - b % p))) (sym (shifted-is k (omega arith)))
-      (subst (λ (y : Float). floorOf y ≡ cond (lt y zero₃₂ && set k b) (bits (cleared k b) ⊖ one₃₂) (bits (cleared k b))) i (by-field-cut b k z h f))
-      ∙ ap (λ (n : Bool). chosen n (not (eqb (b % shifted k) 0))) e
+      (subst (λ (p : ℕ). floorOf x ≡ cond (lt x zero₃₂ && not (eqb (b % p) 0)) (bits (b - b % p) ⊖ one₃₂) (bits (b - b % p))) (sym (weight-is (field b - 127) (omega arith)))
+      (subst (λ (y : Float). floorOf y ≡ cond (lt y zero₃₂ && set k b) (bits (cleared k b) ⊖ one₃₂) (bits (cleared k b))) i (by-field-cut b k (omega arith) (omega arith) (omega arith)))
+      ∙ ap (λ (n : Bool). chosen n (not (eqb (b % weight) 0))) e
       ∙ ap (λ (n : Bool). chosen t (not n)) g)
     where
       chosen : Bool → Bool → Float
-      chosen n l = cond (n && l) (bits (b - b % shifted k) ⊖ one₃₂) (bits (b - b % shifted k))
+      chosen n l = cond (n && l) (bits (b - b % weight) ⊖ one₃₂) (bits (b - b % weight))
 
   pub large-at : 150 ≤ field b → x ≡ floorOf x
   large-at h = sym (subst (λ (y : Float). floorOf y ≡ y) i (by-field-large b h))

@@ -2,10 +2,10 @@
 use mathlib.Core.Path.{_≡_, refl, sym, ap, _∙_, subst}
 use mathlib.Core.Bool.{Bool, true, false, not}
 use Prim.Native.Nat.{ℕ, zero, suc, _+_, _-_, _*_, _/_, _%_, _^_, _≤_, _<_}
-use native.Mathlib.Nat.{mod-le, mul-one, one-mul, add-comm, add-mul-mod-self-right, div-add-mod', lt-of-lt-of-le}
+use native.Mathlib.Nat.{mod-le, mod-lt, div-le-self, mul-one, one-mul, mul-div-cancel, le-div-iff-mul-le, le-of-eq, le-trans, add-comm, add-mul-mod-self-right, div-add-mod', lt-of-lt-of-le}
 use native.Mathlib.Omega.{arith}
-use lib.Dec.{T, leb, lit<}
-use lib.Pow.{mod-mod-pow, pow-pos, pow-add, pow-mono, shl-lt, shl-exact}
+use lib.Dec.{T, leb}
+use lib.Pow.{mod-mod-pow, pow-pos, pow-add, pow-mono, shl-lt}
 use lib.Ieee.{Float, binary32, odd, ofFields, ofBits, nanBits}
 use lib.Ieee.Exact.{HasValue, odd-sign}
 use lib.Ieee.Bits.{is-false, nanBits-above}
@@ -118,26 +118,26 @@ cleared-value b k p h f =
     taken : (m r q p : ℕ) → q * p + r ≡ m → m - r ≡ q * p
     taken m r q p h = omega arith
 
--- no NaN comes of clearing bits below the sign
-cleared-number : (b k : ℕ) → k < 32 → T (not (nanBits binary32 b)) → T (not (nanBits binary32 (cleared k b)))
-cleared-number b k h t =
-    let r = b % 2 ^ k in
-    let l = low-le b k 31 (omega arith) in
+-- ---- what a one weighs in a pattern, as the code has it: 2 ^ 23 shifted by the exponent k
+pub weight-is : (k : ℕ) → k ≤ 23 → 2 ^ 23 / 2 ^ k ≡ 2 ^ (23 - k)
+weight-is k h =
+    let back : 23 ≡ 23 - k + k = omega arith in
+    ap (λ (n : ℕ). n / 2 ^ k) (ap (λ (n : ℕ). 2 ^ n) back ∙ pow-add 2 (23 - k) k) ∙ mul-div-cancel (2 ^ (23 - k)) (pow-pos k)
+
+pub weight-pos : (w k : ℕ) → 2 ^ 23 ≤ w → k ≤ 23 → 0 < w / 2 ^ k
+weight-pos w k l h = le-div-iff-mul-le (pow-pos k) .1 (le-trans (le-of-eq (one-mul (2 ^ k))) (le-trans (pow-mono h) l))
+
+-- no NaN comes of taking something off below the sign
+still-number : (b r : ℕ) → r ≤ b % 2 ^ 31 → T (not (nanBits binary32 b)) → T (not (nanBits binary32 (b - r)))
+still-number b r h t =
     let u = ltb-false 0x7f80_0000 (b % 2 ^ 31) (sym (nanBits-above binary32 b) ∙ is-false (nanBits binary32 b) t) in
-    subst (λ (n : Bool). T (not n)) (sym (nanBits-above binary32 (b - r) ∙ le-ltb 0x7f80_0000 ((b - r) % 2 ^ 31) (below r l u))) tt
+    subst (λ (n : Bool). T (not n)) (sym (nanBits-above binary32 (b - r) ∙ le-ltb 0x7f80_0000 ((b - r) % 2 ^ 31) (below u))) tt
   where
-    below : (r : ℕ) → r ≤ b % 2 ^ 31 → b % 2 ^ 31 ≤ 0x7f80_0000 → (b - r) % 2 ^ 31 ≤ 0x7f80_0000
-    below r l u = omega arith
+    below : b % 2 ^ 31 ≤ 0x7f80_0000 → (b - r) % 2 ^ 31 ≤ 0x7f80_0000
+    below u = omega arith
 
--- ---- 1 shifted by k in 32 bits, as the code has 2 ^ k
-abbrev pub shifted : ℕ → ℕ
-shifted k = 1 * 2 ^ k % 4294967296
-
-pub shifted-is : (k : ℕ) → k < 32 → shifted k ≡ 2 ^ k
-shifted-is k h = shl-exact 1 k 32 (lit< tt) (omega arith) ∙ one-mul (2 ^ k)
-
-pub shifted-pos : (k : ℕ) → k < 32 → 0 < shifted k
-shifted-pos k h = subst (λ (p : ℕ). 0 < p) (sym (shifted-is k h)) (pow-pos k)
-
-pub shifted-number : (b k : ℕ) → k < 32 → T (not (nanBits binary32 b)) → T (not (nanBits binary32 (b - b % shifted k)))
-shifted-number b k h t = subst (λ (p : ℕ). T (not (nanBits binary32 (b - b % p)))) (sym (shifted-is k h)) (cleared-number b k h t)
+pub weight-number : (b w k : ℕ) → w ≤ 2 ^ 24 → 0 < w / 2 ^ k → 127 ≤ field b → T (not (nanBits binary32 b)) → T (not (nanBits binary32 (b - b % (w / 2 ^ k))))
+weight-number b w k h p f = still-number b (b % (w / 2 ^ k)) (small (b % (w / 2 ^ k)) (w / 2 ^ k) (mod-lt b p) (div-le-self w (2 ^ k)))
+  where
+    small : (r v : ℕ) → r < v → v ≤ w → r ≤ b % 2 ^ 31
+    small r v l u = omega arith

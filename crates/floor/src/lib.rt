@@ -30,7 +30,7 @@ pub fn floor(x: f32) -> f32
     if field >= WHOLE {
         return x;
     }
-    let low = bits % (1 << (WHOLE - field));
+    let low = bits % (FIELD >> (field - ONE));
     let cleared = f32::from_bits(bits - low);
     if x < 0.0 {
         if low != 0 {
