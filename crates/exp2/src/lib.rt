@@ -2,8 +2,8 @@
 ghost use mathlib.Core.Path.{_≡_};
 ghost use Rattle.series.specs.Horner.{horner};
 ghost use Rattle.exp2.specs.Formula.{exp2Coefficients, exp2Of};
+use floor::floor;
 use math::clamp;
-use rounded_floor::floor;
 
 // What one step of the exponent's field weighs in a bit pattern.
 const FIELD: u32 = 0x80_0000;

@@ -1,6 +1,6 @@
-// The largest whole number not above an f32, which may be a NaN, an infinity or a zero of either sign.
+// The largest whole number not above an f32, and what is left above it. Each takes every f32, a NaN, an infinity and a zero of either sign among them.
 ghost use mathlib.Core.Path.{_≡_};
-ghost use Rattle.floor.specs.Formula.{floorOf};
+ghost use Rattle.floor.specs.Formula.{floorOf, fractOf};
 
 // What the sign weighs in a bit pattern, and one step of the exponent's field.
 pub const SIGN: u32 = 0x8000_0000;
@@ -38,4 +38,11 @@ pub fn floor(x: f32) -> f32
         }
     }
     cleared
+}
+
+// What is left of x above its floor.
+pub fn fract(x: f32) -> f32
+    ensures { λ r. ⌜ r ≡ fractOf x ⌝ }
+{
+    x - floor(x)
 }

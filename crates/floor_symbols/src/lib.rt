@@ -20,5 +20,5 @@ pub extern "C" fn floor_by_rounding(x: f32) -> f32
 pub extern "C" fn fract(x: f32) -> f32
     ensures { λ r. ⌜ r ≡ fractOf x ⌝ }
 {
-    rounded_floor::fract(x)
+    floor::fract(x)
 }

@@ -1,7 +1,7 @@
 // The sine of a number of turns, which may be any f32: the turn's part is folded to a quarter, and a polynomial gives the sine there.
 ghost use mathlib.Core.Path.{_≡_};
 ghost use Rattle.sine.specs.Formula.{halfOf, quarterOf, signOf, sineOfQuarter, sinTurnsOf};
-use rounded_floor::fract;
+use floor::fract;
 
 // 1 / n!, with the sign that the series of the sine has
 const SINE_3: f32 = -1.0 / 6.0;

@@ -1,8 +1,8 @@
 -- `fract` is `fractOf`. Assumes nothing.
 use Rattle.floor.specs.Formula.{fractOf}
 use borrow.Author.Needs.{needs}
-use Rattle.rounded_floor.proofs.fract.Statement.{statement}
-use Rattle.rounded_floor.proofs.fract.Tie as tie
+use Rattle.floor.proofs.fract.Statement.{statement}
+use Rattle.floor.proofs.fract.Tie as tie
 
 pub fract-spec : {M : Type 1} → statement M
 unfolding fractOf
