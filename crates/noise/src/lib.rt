@@ -4,7 +4,7 @@ ghost use Rattle.noise.specs.Formula.{noiseAtOf, noiseLevelOf, noiseHeig
 use curve::Height;
 use curve::drawn;
 use curve::position;
-use floor::fract;
+use rounded_floor::fract;
 use settings::Noise;
 use sine::sin_turns;
 
