@@ -3,7 +3,6 @@ ghost use mathlib.Core.Path.{_≡_};
 ghost use Rattle.filter.specs.Formula.{mirroredOf, octavesOf, squaredOf, logOf, distanceOf, peakOf, filterLevelOf, filterHeightOf};
 use curve::Height;
 use curve::clamp_unit;
-use curve::drawn;
 use curve::position;
 use exp2::exp2;
 use log2::log2;
@@ -79,9 +78,19 @@ fn level(filter: Filter, t: f32) -> f32
     clamp_unit((decibels - FLOOR) / RANGE)
 }
 
+// A sample's height: what a strip's loop calls, and without the steps, which are none.
+pub fn filter_sample(filter: Filter, t: f32) -> f32
+    ensures { λ r. ⌜ r ≡ filterHeightOf filter t .height ⌝ }
+{
+    clamp_unit(level(filter, position(t)))
+}
+
 // The height of a filter's curve at position t.
 pub fn filter_height(filter: Filter, t: f32) -> Height
     ensures { λ r. ⌜ r ≡ filterHeightOf filter t ⌝ }
 {
-    drawn(level(filter, position(t)))
+    Height {
+        height: filter_sample(filter, t),
+        steps: 0,
+    }
 }

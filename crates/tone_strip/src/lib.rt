@@ -3,7 +3,7 @@ ghost use mathlib.Core.Path.{_≡_};
 ghost use Prim.Native.Nat.{_≤_};
 ghost use lib.ListN.{length};
 ghost use Rattle.strip.specs.Strip.{filledOf, stepSum};
-use filter::filter_height;
+use filter::filter_sample;
 use generator::Shape;
 use noise::noise_height;
 use oscillator::oscillator_height;
@@ -21,7 +21,7 @@ pub fn fill_filter(f: Filter, out: &mut [f32]) -> u32
     let last = last_of(n);
     let mut i: usize = 0;
     while i < n {
-        out[i] = filter_height(f, sample_position(i as u16, last)).height;
+        out[i] = filter_sample(f, sample_position(i as u16, last));
         i += 1;
     }
     0

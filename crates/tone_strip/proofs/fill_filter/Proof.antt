@@ -21,7 +21,7 @@ unfolding heightOf
 loop-again c =
     let l = c .before .before .before in
     let s = AFilter (l .before .before .before .args .f) in
-    filled-next s _ _ _ (l .loop .inv) (search needs) _ (l .before .last-of .ensures) (c .before .sample-position .ensures) (simp (c .filter-height .ensures))
+    filled-next s _ _ _ (l .loop .inv) (search needs) _ (l .before .last-of .ensures) (c .before .sample-position .ensures) (c .filter-sample .ensures)
 
 returns : tie.Need-returns Inv-loop μ-loop
 unfolding heightOf filterHeightOf drawnOf
