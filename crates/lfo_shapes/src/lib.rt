@@ -91,7 +91,7 @@ fn glide(phase: f32) -> f32
     ensures { λ r. ⌜ r ≡ glideOf phase ⌝ }
 {
     let previous = sampled(phase - 1.0);
-    previous + (sampled(phase) - previous) * fract(phase)
+    previous + (sampled(phase) - previous) * rounded_floor::fract(phase)
 }
 
 // The shape's level at a phase, with no limit on its slope.

@@ -2,7 +2,7 @@
 ghost use mathlib.Core.Path.{_≡_};
 ghost use Rattle.noise.specs.Formula.{noiseAtOf, noiseLevelOf, noiseHeightOf};
 use curve::Height;
-use curve::drawn;
+use curve::clamp_unit;
 use curve::position;
 use rounded_floor::fract;
 use settings::Noise;
@@ -22,9 +22,19 @@ fn noise_level(noise: Noise, t: f32) -> f32
     0.5 + (noise_at(t) - 0.5) * noise.level
 }
 
+// A sample's height: what a strip's loop calls, and without the steps, which are none.
+pub fn noise_sample(noise: Noise, t: f32) -> f32
+    ensures { λ r. ⌜ r ≡ noiseHeightOf noise t .height ⌝ }
+{
+    clamp_unit(noise_level(noise, position(t)))
+}
+
 // The height of the noise.
 pub fn noise_height(noise: Noise, t: f32) -> Height
     ensures { λ r. ⌜ r ≡ noiseHeightOf noise t ⌝ }
 {
-    drawn(noise_level(noise, position(t)))
+    Height {
+        height: noise_sample(noise, t),
+        steps: 0,
+    }
 }

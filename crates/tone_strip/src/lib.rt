@@ -5,7 +5,7 @@ ghost use lib.ListN.{length};
 ghost use Rattle.strip.specs.Strip.{filledOf, stepSum};
 use filter::filter_sample;
 use generator::Shape;
-use noise::noise_height;
+use noise::noise_sample;
 use oscillator::oscillator_height;
 use settings::Filter;
 use settings::Noise;
@@ -49,7 +49,7 @@ pub fn fill_noise(s: Noise, out: &mut [f32]) -> u32
     let last = last_of(n);
     let mut i: usize = 0;
     while i < n {
-        out[i] = noise_height(s, sample_position(i as u16, last)).height;
+        out[i] = noise_sample(s, sample_position(i as u16, last));
         i += 1;
     }
     0

@@ -21,7 +21,7 @@ unfolding heightOf
 loop-again c =
     let l = c .before .before .before in
     let s = ANoise (l .before .before .before .args .s) in
-    filled-next s _ _ _ (l .loop .inv) (search needs) _ (l .before .last-of .ensures) (c .before .sample-position .ensures) (simp (c .noise-height .ensures))
+    filled-next s _ _ _ (l .loop .inv) (search needs) _ (l .before .last-of .ensures) (c .before .sample-position .ensures) (c .noise-sample .ensures)
 
 returns : tie.Need-returns Inv-loop μ-loop
 unfolding heightOf noiseHeightOf drawnOf
