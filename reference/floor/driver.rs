@@ -1,4 +1,4 @@
-//! Both floors and `fract` against the reference's at every bit pattern: the same bits, or a NaN on both sides.
+//! Both floors, and `fract` by each, against the reference's at every bit pattern: the same bits, or a NaN on both sides.
 use crate::math;
 use std::sync::atomic::{AtomicU32, Ordering};
 use std::thread;
@@ -7,22 +7,26 @@ use std::time::Instant;
 extern "C" {
     fn floor_by_exponent(x: f32) -> f32;
     fn floor_by_rounding(x: f32) -> f32;
-    fn fract(x: f32) -> f32;
+    fn fract_by_exponent(x: f32) -> f32;
+    fn fract_by_rounding(x: f32) -> f32;
 }
 
 /// The patterns with one highest byte are a part, which a thread takes and tries.
 const PARTS: u32 = 256;
 
-const NAMES: [&str; 3] = ["floor", "floor_by_rounding", "fract"];
+/// How many functions are tried.
+const N: usize = 4;
 
-fn ours(x: f32) -> [f32; 3] {
+const NAMES: [&str; N] = ["floor_by_exponent", "floor_by_rounding", "fract_by_exponent", "fract_by_rounding"];
+
+fn ours(x: f32) -> [f32; N] {
     // Safety: numbers in, a number out.
-    unsafe { [floor_by_exponent(x), floor_by_rounding(x), fract(x)] }
+    unsafe { [floor_by_exponent(x), floor_by_rounding(x), fract_by_exponent(x), fract_by_rounding(x)] }
 }
 
-fn theirs(x: f32) -> [f32; 3] {
-    let floor = math::floor(x);
-    [floor, floor, math::fract(x)]
+fn theirs(x: f32) -> [f32; N] {
+    let (floor, fract) = (math::floor(x), math::fract(x));
+    [floor, floor, fract, fract]
 }
 
 fn agree(a: f32, b: f32) -> bool {
@@ -30,12 +34,12 @@ fn agree(a: f32, b: f32) -> bool {
 }
 
 /// How many of a part's answers differ, by function. The first of each is printed.
-fn part(n: u32) -> [u64; 3] {
-    let mut different = [0; 3];
+fn part(n: u32) -> [u64; N] {
+    let mut different = [0; N];
     for low in 0..1 << 24 {
         let x = f32::from_bits(n << 24 | low);
         let (a, b) = (ours(x), theirs(x));
-        for f in 0..3 {
+        for f in 0..N {
             if !agree(a[f], b[f]) {
                 if different[f] == 0 {
                     let bits = [x, a[f], b[f]].map(f32::to_bits);
@@ -49,15 +53,15 @@ fn part(n: u32) -> [u64; 3] {
 }
 
 /// Takes parts until none is left.
-fn work(next: &AtomicU32) -> [u64; 3] {
-    let mut sum = [0; 3];
+fn work(next: &AtomicU32) -> [u64; N] {
+    let mut sum = [0; N];
     loop {
         let n = next.fetch_add(1, Ordering::Relaxed);
         if n >= PARTS {
             return sum;
         }
         let different = part(n);
-        for f in 0..3 {
+        for f in 0..N {
             sum[f] += different[f];
         }
         eprint!("\rreference/floor: part {} of {PARTS}", n + 1);
@@ -68,7 +72,7 @@ pub fn run() {
     let threads = thread::available_parallelism().map_or(1, |n| n.get());
     let next = AtomicU32::new(0);
     let start = Instant::now();
-    let sums: Vec<[u64; 3]> = thread::scope(|s| {
+    let sums: Vec<[u64; N]> = thread::scope(|s| {
         let workers: Vec<_> = (0..threads).map(|_| s.spawn(|| work(&next))).collect();
         workers.into_iter().map(|w| w.join().expect("a thread ended early")).collect()
     });
