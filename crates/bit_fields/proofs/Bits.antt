@@ -13,10 +13,10 @@ use Rattle.numerals.specs.Spelled.{glyphOf, digitsOf}
 use Rattle.numerals.proofs.Digits.{digits-front}
 
 -- 1 shifted by k in 32 bits
-abbrev shifted : ℕ → ℕ
+abbrev pub shifted : ℕ → ℕ
 shifted k = 1 * 2 ^ k % 4294967296
 
-shifted-is : (k : ℕ) → k < 32 → shifted k ≡ 2 ^ k
+pub shifted-is : (k : ℕ) → k < 32 → shifted k ≡ 2 ^ k
 shifted-is k h = shl-exact 1 k 32 (lit< tt) (omega arith) ∙ one-mul (2 ^ k)
 
 pub shifted-pos : (k : ℕ) → k < 32 → 0 < shifted k

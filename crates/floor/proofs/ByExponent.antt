@@ -14,12 +14,13 @@ use lib.Ieee.Bits.{ofBits-fits}
 use lib.Ieee.Nearest.{div-same}
 use lib.Ieee.Compare.{differs-from-itself}
 use borrow.Author.Tests.{eqb-true, eqb-false, ltb-true, ltb-false, lt-ltb, le-ltb}
+use Rattle.exact.specs.Fraction.{floorℚ}
 use Rattle.exact.specs.Value.{value}
 use Rattle.exact.specs.Binary32.{_⊖_, bits, zero₃₂, one₃₂}
 use Rattle.floor.specs.Formula.{floorOf}
 use Rattle.floor.specs.Exponent.{exponent, set, cleared, smallFloor, cutFloor, atExponent, byExponent}
 use Rattle.math.proofs.Whole.{Whole, negative, of-int, one-float, sum-whole}
-use Rattle.floor.proofs.FloorExact.{floor-zero, floor-minus, floor-large}
+use Rattle.floor.proofs.FloorExact.{floor-zero, minus-over, floor-large}
 use Rattle.floor.proofs.Patterns.{sign, field, digits, bits-is, normal-value, small-value, cut-value, low-digits, cleared-value, weight-is}
 
 -- ---- the test of the sign
@@ -55,19 +56,32 @@ module _ (n d a c : ℕ) (D : 0 < d) (C : 0 < c) (v : n * c ≡ a * d) where
   to : (q : ℕ) → a ≤ q * c → n ≤ q * d
   to q h = le-of-mul-le-mul-right (subst (λ (y : ℕ). n * c ≤ y) (mul-right-comm q c d) (subst (λ (y : ℕ). y ≤ q * c * d) (sym v) (mul-le-mul-right d h))) C
 
--- ---- the floor of what has the value a / c, or -a / c
+-- ---- the floor of what has the value a / c, or -a / c: the whole number, and the float
+pub whole-of : (x : Float) (a c : ℕ) → 0 < c → HasValue x false a c → floorℚ (value x) ≡ pos (a / c)
+unfolding value
+whole-of nan a c C v = absurd v
+whole-of (inf t) a c C v = absurd v
+whole-of (fin true m e) a c C (s, v) = absurd (true≢false s)
+whole-of (fin false m e) a c C (s, v) = ap pos (div-same (m * up e) (down e) a c (down-pos e) C v)
+
+pub whole-of-minus : (x : Float) (a c q : ℕ) → 0 < c → HasValue x true a c → q * c < a → a ≤ suc q * c → floorℚ (value x) ≡ negsuc q
+unfolding value
+whole-of-minus nan a c q C v l h = absurd v
+whole-of-minus (inf t) a c q C v l h = absurd v
+whole-of-minus (fin false m e) a c q C (s, v) l h = absurd (false≢true s)
+whole-of-minus (fin true m e) a c q C (s, v) l h = minus-over (m * up e) (down e) q (over (m * up e) (down e) a c (down-pos e) C v q l) (to (m * up e) (down e) a c (down-pos e) C v (suc q) h)
+
+floor-is : (x : Float) (s : Bool) (a c : ℕ) (z : ℤ) → HasValue x s a c → floorℚ (value x) ≡ z → floorOf x ≡ ofInt binary32 z
+unfolding floorOf
+floor-is nan s a c z v e = absurd v
+floor-is (inf t) s a c z v e = absurd v
+floor-is (fin t m k) s a c z v e = ap (λ (y : ℤ). ofInt binary32 y) e
+
 floor-of : (x : Float) (a c : ℕ) → 0 < c → HasValue x false a c → floorOf x ≡ ofInt binary32 (pos (a / c))
-unfolding floorOf value
-floor-of nan a c C v = absurd v
-floor-of (inf t) a c C v = absurd v
-floor-of (fin true m e) a c C (s, v) = absurd (true≢false s)
-floor-of (fin false m e) a c C (s, v) = ap (λ (q : ℕ). ofInt binary32 (pos q)) (div-same (m * up e) (down e) a c (down-pos e) C v)
+floor-of x a c C v = floor-is x false a c (pos (a / c)) v (whole-of x a c C v)
 
 floor-of-minus : (x : Float) (a c q : ℕ) → 0 < c → HasValue x true a c → q * c < a → a ≤ suc q * c → floorOf x ≡ ofInt binary32 (negsuc q)
-floor-of-minus nan a c q C v l h = absurd v
-floor-of-minus (inf t) a c q C v l h = absurd v
-floor-of-minus (fin false m e) a c q C (s, v) l h = absurd (false≢true s)
-floor-of-minus (fin true m e) a c q C (s, v) l h = floor-minus m e q (over (m * up e) (down e) a c (down-pos e) C v q l) (to (m * up e) (down e) a c (down-pos e) C v (suc q) h)
+floor-of-minus x a c q C v l h = floor-is x true a c (negsuc q) v (whole-of-minus x a c q C v l h)
 
 sign-is : (x : Float) (s : Bool) (a c : ℕ) → 0 < a → HasValue x s a c → lt x zero₃₂ ≡ s
 sign-is nan s a c A v = absurd v

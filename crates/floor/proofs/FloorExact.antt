@@ -109,14 +109,13 @@ pub floor-zero : (s : Bool) (e : ℤ) → floorOf (fin s 0 e) ≡ ofInt binary32
 unfolding floorOf
 floor-zero s e = ap (λ (z : ℤ). ofInt binary32 z) (value-is s 0 e ∙ over-zero s (up e) (down e))
 
+pub minus-over : (n d q : ℕ) → q * d < n → n ≤ suc q * d → floorOver (negℤ (pos n)) d ≡ negsuc q
+minus-over zero d q l h = absurd (omega arith)
+minus-over (suc n) d q l h = ap negsuc (div-eq-of-lt-le d (omega arith) (omega arith))
+
 pub floor-minus : (m : ℕ) (e : ℤ) (q : ℕ) → q * down e < m * up e → m * up e ≤ suc q * down e → floorOf (fin true m e) ≡ ofInt binary32 (negsuc q)
 unfolding floorOf value
-floor-minus m e q l h =
-    ap (λ (n : ℕ). ofInt binary32 (floorOver (negℤ (pos n)) (down e))) (one-more (m * up e) (omega arith))
-    ∙ ap (λ (n : ℕ). ofInt binary32 (negsuc n)) (div-eq-of-lt-le (down e) (omega arith) (omega arith))
-  where
-    one-more : (n : ℕ) → 0 < n → n ≡ suc (n - 1)
-    one-more n h = omega arith
+floor-minus m e q l h = ap (λ (z : ℤ). ofInt binary32 z) (minus-over (m * up e) (down e) q l h)
 
 pub floor-large : (s : Bool) (m : ℕ) (e : ℤ) → T (fits binary32 (fin s m e)) → 2 ^ 23 * down e ≤ m * up e → fin s m e ≡ floorOf (fin s m e)
 floor-large s zero e f h = absurd (omega (arith, down-pos e))

@@ -10,7 +10,8 @@ use Rattle.exact.specs.Fraction.{floorℚ}
 use Rattle.exact.specs.Value.{value}
 use Rattle.exact.specs.Binary32.{bits}
 use Rattle.floor.specs.Exponent.{exponent, set, cleared}
-use Rattle.floor.proofs.Patterns.{field, shifted, shifted-is}
+use Rattle.floor.proofs.Patterns.{field}
+use Rattle.bit_fields.proofs.Bits.{shifted, shifted-is}
 use Rattle.floor_number.specs.Number.{wholeText, numberText}
 use Rattle.floor_number.proofs.Exponents.{exponent-below, exponent-from, number-small, number-cut}
 use Rattle.floor_reasons.specs.Reasons.{stepReason}
@@ -44,5 +45,5 @@ module _ (b k : ℕ) (h : k < 32) where
   pub cleared-line : (name : List ℕ) → lineOf name (b - b % shifted k) ≡ lineOf name (cleared k b)
   cleared-line name = ap (λ (p : ℕ). lineOf name (b - b % p)) (shifted-is k h)
 
-  pub set-reason : stepReason k (not (eqb (b % shifted k) 0)) b ≡ stepReason k (set k b) b
-  set-reason = ap (λ (p : ℕ). stepReason k (not (eqb (b % p) 0)) b) (shifted-is k h)
+  pub set-reason : stepReason (not (eqb (b % shifted k) 0)) b ≡ stepReason (set k b) b
+  set-reason = ap (λ (p : ℕ). stepReason (not (eqb (b % p) 0)) b) (shifted-is k h)

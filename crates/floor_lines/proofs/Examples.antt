@@ -8,7 +8,7 @@ use Rattle.text.specs.Text.{ascii}
 use Rattle.numerals.specs.Spelled.{glyphOf, digitsOf, placesFrom, decimalOf, hexOf}
 use Rattle.bit_fields.specs.Pattern.{fieldsText, patternText}
 use Rattle.floor_number.specs.Number.{wholeText}
-use Rattle.floor_reasons.specs.Reasons.{smallReason, clearedReason, setReason, stepReason}
+use Rattle.floor_reasons.specs.Reasons.{smallReason, clearedReason, stepReason}
 use Rattle.floor_lines.specs.Lines.{lineOf, headOf, floorLine, smallText, cutText, largeText, workingText}
 
 -- -2.5
@@ -16,9 +16,9 @@ cut : workingText 0xc020_0000 ≡
     ascii "x        0xc0200000  1 10000000 01000000000000000000000\n"
     ++ ascii "exponent 1, from 0 to 22: the low 22 bits of the fraction are cleared\n"
     ++ ascii "cleared  0xc0000000  1 10000000 00000000000000000000000\n"
-    ++ ascii "less 1, since x is below 0 and one of them was set\n"
+    ++ ascii "less 1, since x is below 0 and a set bit was cleared\n"
     ++ ascii "floor    0xc0400000  1 10000000 10000000000000000000000  -3\n"
-unfolding workingText cutText clearedReason setReason stepReason floorLine headOf lineOf wholeText patternText
+unfolding workingText cutText clearedReason stepReason floorLine headOf lineOf wholeText patternText
     fieldsText hexOf decimalOf digitsOf placesFrom glyphOf floorOf value ofBits toBits ofInt lt
 cut = refl
 
@@ -27,9 +27,9 @@ one : workingText 0xcaff_ffff ≡
     ascii "x        0xcaffffff  1 10010101 11111111111111111111111\n"
     ++ ascii "exponent 22, from 0 to 22: the lowest bit of the fraction is cleared\n"
     ++ ascii "cleared  0xcafffffe  1 10010101 11111111111111111111110\n"
-    ++ ascii "less 1, since x is below 0 and it was set\n"
+    ++ ascii "less 1, since x is below 0 and a set bit was cleared\n"
     ++ ascii "floor    0xcb000000  1 10010110 00000000000000000000000  -8388608\n"
-unfolding workingText cutText clearedReason setReason stepReason floorLine headOf lineOf wholeText patternText
+unfolding workingText cutText clearedReason stepReason floorLine headOf lineOf wholeText patternText
     fieldsText hexOf decimalOf digitsOf placesFrom glyphOf floorOf value ofBits toBits ofInt lt
 one = refl
 

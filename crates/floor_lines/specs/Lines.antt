@@ -38,7 +38,7 @@ smallText b = headOf b (ascii ", below 0: ") ++ smallReason b ++ floorLine b
 unfoldable pub cutText : ℕ → ℕ → List ℕ
 cutText k b =
     headOf b (ascii ", from 0 to 22: ") ++ clearedReason k
-    ++ lineOf (ascii "cleared  ") (cleared k b) ++ stepReason k (set k b) b ++ floorLine b
+    ++ lineOf (ascii "cleared  ") (cleared k b) ++ stepReason (set k b) b ++ floorLine b
 
 -- ---- an exponent of 23 or more: the pattern itself, an infinity's and a NaN's too
 unfoldable pub largeText : ℕ → List ℕ

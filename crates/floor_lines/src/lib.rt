@@ -70,7 +70,7 @@ fn put_cut(out: &mut [u8], at: usize, b: u32, k: u32) -> usize
     let mut next = put_head(out, at, b, b", from 0 to 22: ");
     next = put_cleared_reason(out, next, k);
     next = put_line(out, next, b"cleared  ", b - low);
-    next = put_step_reason(out, next, b, k, low != 0);
+    next = put_step_reason(out, next, b, low != 0);
     put_floor(out, next, b)
 }
 

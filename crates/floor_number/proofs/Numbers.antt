@@ -22,33 +22,12 @@ use Rattle.exact.specs.Binary32.{bits, zero₃₂, one₃₂}
 use Rattle.math.proofs.Whole.{Whole}
 use Rattle.floor.specs.Formula.{floorOf}
 use Rattle.floor.proofs.FloorExact.{floor-exact}
-use Rattle.floor.proofs.Patterns.{sign, field, digits, small-value, cut-value, low-digits, shifted, shifted-is}
-use Rattle.floor.proofs.ByExponent.{over, to, by-field-small}
+use Rattle.floor.proofs.Patterns.{sign, field, digits, small-value, cut-value, low-digits}
+use Rattle.floor.proofs.ByExponent.{whole-of, whole-of-minus, by-field-small}
 use Rattle.text.specs.Text.{ascii}
+use Rattle.bit_fields.proofs.Bits.{shifted, shifted-is}
 use Rattle.numerals.specs.Spelled.{glyphOf, digitsOf, placesFrom, decimalOf}
 use Rattle.floor_number.specs.Number.{wholeText}
-
--- ---- the floor of what has the value a / c, or -a / c
-whole-of : (x : Float) (a c : ℕ) → 0 < c → HasValue x false a c → floorℚ (value x) ≡ pos (a / c)
-unfolding value
-whole-of nan a c C v = absurd v
-whole-of (inf t) a c C v = absurd v
-whole-of (fin true m e) a c C (s, v) = absurd (true≢false s)
-whole-of (fin false m e) a c C (s, v) = ap pos (div-same (m * up e) (down e) a c (down-pos e) C v)
-
-minus-of : (n d q : ℕ) → q * d < n → n ≤ suc q * d → floorOver (negℤ (pos n)) d ≡ negsuc q
-minus-of zero d q l h = absurd (omega arith)
-minus-of (suc n) d q l h = ap negsuc (div-eq-of-lt-le d (omega arith) (omega arith))
-
-whole-of-minus : (x : Float) (a c q : ℕ) → 0 < c → HasValue x true a c
-    → q * c < a → a ≤ suc q * c → floorℚ (value x) ≡ negsuc q
-unfolding value
-whole-of-minus nan a c q C v l h = absurd v
-whole-of-minus (inf t) a c q C v l h = absurd v
-whole-of-minus (fin false m e) a c q C (s, v) l h = absurd (false≢true s)
-whole-of-minus (fin true m e) a c q C (s, v) l h =
-    let n = m * up e in
-    minus-of n (down e) q (over n (down e) a c (down-pos e) C v q l) (to n (down e) a c (down-pos e) C v (suc q) h)
 
 -- ---- an exponent below 0: the number that -1 holds, or +0
 minus-one : (z : ℤ) → Whole (neg one₃₂) z → z ≡ negsuc 0

@@ -8,7 +8,7 @@ use lib.Ieee.{lt}
 use Rattle.exact.specs.Binary32.{bits, zero₃₂}
 use Rattle.text.specs.Text.{ascii}
 use Rattle.numerals.specs.Spelled.{decimalOf}
-use Rattle.floor_reasons.specs.Reasons.{smallReason, clearedReason, setReason, unsetReason, stepReason}
+use Rattle.floor_reasons.specs.Reasons.{smallReason, clearedReason, stepReason}
 
 -- ---- an exponent below 0
 pub small-minus : (b : ℕ) → lt (bits b) zero₃₂ ≡ true → ascii "-1, since x is below 0\n" ≡ smallReason b
@@ -29,33 +29,19 @@ pub some-cleared : (k : ℕ) → eqb k 1 ≡ false
 unfolding clearedReason
 some-cleared k h = rw h
 
-pub one-set : (k : ℕ) → eqb k 1 ≡ true → ascii "less 1, since x is below 0 and it was set\n" ≡ setReason k
-unfolding setReason
-one-set k h = rw h
-
-pub some-set : (k : ℕ) → eqb k 1 ≡ false → ascii "less 1, since x is below 0 and one of them was set\n" ≡ setReason k
-unfolding setReason
-some-set k h = rw h
-
-pub one-unset : (k : ℕ) → eqb k 1 ≡ true → ascii "and that is all, since it was not set\n" ≡ unsetReason k
-unfolding unsetReason
-one-unset k h = rw h
-
-pub some-unset : (k : ℕ) → eqb k 1 ≡ false → ascii "and that is all, since none of them was set\n" ≡ unsetReason k
-unfolding unsetReason
-some-unset k h = rw h
-
 -- ---- whether 1 is taken off
-module _ (b k : ℕ) (some : Bool) where
-  pub step-set : lt (bits b) zero₃₂ ≡ true → some ≡ true → setReason k ≡ stepReason k some b
+module _ (b : ℕ) (some : Bool) where
+  pub step-set : lt (bits b) zero₃₂ ≡ true → some ≡ true
+      → ascii "less 1, since x is below 0 and a set bit was cleared\n" ≡ stepReason some b
   unfolding stepReason
   step-set h f = rw (h, f)
 
-  pub step-unset : lt (bits b) zero₃₂ ≡ true → some ≡ false → unsetReason k ≡ stepReason k some b
+  pub step-unset : lt (bits b) zero₃₂ ≡ true → some ≡ false
+      → ascii "and that is all, since no set bit was cleared\n" ≡ stepReason some b
   unfolding stepReason
   step-unset h f = rw (h, f)
 
   pub step-above : lt (bits b) zero₃₂ ≡ false
-      → ascii "and that is all, since x is not below 0\n" ≡ stepReason k some b
+      → ascii "and that is all, since x is not below 0\n" ≡ stepReason some b
   unfolding stepReason
   step-above h = rw h

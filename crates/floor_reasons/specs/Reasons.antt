@@ -18,19 +18,9 @@ clearedReason k =
     cond (eqb k 1) (ascii "the lowest bit of the fraction is cleared\n")
     (ascii "the low " ++ decimalOf k ++ ascii " bits of the fraction are cleared\n")
 
--- One of them was set, or none was.
-unfoldable pub setReason : ℕ → List ℕ
-setReason k =
-    cond (eqb k 1) (ascii "less 1, since x is below 0 and it was set\n")
-    (ascii "less 1, since x is below 0 and one of them was set\n")
-
-unfoldable pub unsetReason : ℕ → List ℕ
-unsetReason k =
-    cond (eqb k 1) (ascii "and that is all, since it was not set\n")
-    (ascii "and that is all, since none of them was set\n")
-
--- Whether 1 is taken off: x is below 0, and one of them was set.
-unfoldable pub stepReason : ℕ → Bool → ℕ → List ℕ
-stepReason k some b =
-    cond (lt (bits b) zero₃₂) (cond some (setReason k) (unsetReason k))
+-- Whether 1 is taken off: x is below 0, and one of the cleared bits was set.
+unfoldable pub stepReason : Bool → ℕ → List ℕ
+stepReason some b =
+    cond (lt (bits b) zero₃₂)
+    (cond some (ascii "less 1, since x is below 0 and a set bit was cleared\n") (ascii "and that is all, since no set bit was cleared\n"))
     (ascii "and that is all, since x is not below 0\n")

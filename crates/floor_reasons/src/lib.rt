@@ -1,6 +1,6 @@
 // Why the floor is what it is, in words: by the sign of x, and by the bits of the fraction that stand below the point.
 ghost use Rattle.text.specs.Text.{Puts};
-ghost use Rattle.floor_reasons.specs.Reasons.{smallReason, clearedReason, setReason, unsetReason, stepReason};
+ghost use Rattle.floor_reasons.specs.Reasons.{smallReason, clearedReason, stepReason};
 use float_bits::float_of;
 use numerals::put_decimal;
 use text::put;
@@ -27,38 +27,19 @@ pub fn put_cleared_reason(out: &mut [u8], at: usize, k: u32) -> usize
     put(out, next, b" bits of the fraction are cleared\n")
 }
 
-// One of them was set, or none was.
-fn put_set_reason(out: &mut [u8], at: usize, k: u32) -> usize
-    ensures { λ r. ⌜ Puts (now (out .entry)) at (setReason k) (now (out .exit)) r ⌝ }
-{
-    if k == 1 {
-        return put(out, at, b"less 1, since x is below 0 and it was set\n");
-    }
-    put(
-        out,
-        at,
-        b"less 1, since x is below 0 and one of them was set\n",
-    )
-}
-
-fn put_unset_reason(out: &mut [u8], at: usize, k: u32) -> usize
-    ensures { λ r. ⌜ Puts (now (out .entry)) at (unsetReason k) (now (out .exit)) r ⌝ }
-{
-    if k == 1 {
-        return put(out, at, b"and that is all, since it was not set\n");
-    }
-    put(out, at, b"and that is all, since none of them was set\n")
-}
-
-// Whether 1 is taken off, and why: x is below 0, and one of the k bits was set.
-pub fn put_step_reason(out: &mut [u8], at: usize, b: u32, k: u32, some: bool) -> usize
-    ensures { λ r. ⌜ Puts (now (out .entry)) at (stepReason k some b) (now (out .exit)) r ⌝ }
+// Whether 1 is taken off, and why: x is below 0, and one of the cleared bits was set.
+pub fn put_step_reason(out: &mut [u8], at: usize, b: u32, some: bool) -> usize
+    ensures { λ r. ⌜ Puts (now (out .entry)) at (stepReason some b) (now (out .exit)) r ⌝ }
 {
     if float_of(b) < 0.0 {
         if some {
-            return put_set_reason(out, at, k);
+            return put(
+                out,
+                at,
+                b"less 1, since x is below 0 and a set bit was cleared\n",
+            );
         }
-        return put_unset_reason(out, at, k);
+        return put(out, at, b"and that is all, since no set bit was cleared\n");
     }
     put(out, at, b"and that is all, since x is not below 0\n")
 }

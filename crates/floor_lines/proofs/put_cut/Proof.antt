@@ -2,7 +2,7 @@
 use native.Mathlib.Nat.{mod-le}
 use native.Mathlib.Omega.{arith}
 use Rattle.text.proofs.Writing.{_⨾_, puts-as}
-use Rattle.floor.proofs.Patterns.{shifted-pos}
+use Rattle.bit_fields.proofs.Bits.{shifted-pos}
 use Rattle.floor_lines.specs.Lines.{cutText}
 use Rattle.floor_lines.proofs.Cases.{cleared-line, set-reason}
 use borrow.Author.Needs.{needs}
@@ -15,7 +15,7 @@ returns c =
     c .before .before .before .before .before .before .before .before .before .before .before .before .before .before .before .before .before .before .before .put-head .ensures ⨾
     c .before .before .before .before .before .before .before .before .before .before .before .before .before .before .before .put-cleared-reason .ensures ⨾
     puts-as (cleared-line _ _ (omega arith) _) (c .before .before .before .before .before .before .before .before .before .before .put-line .ensures) ⨾
-    puts-as (set-reason _ _ (omega arith)) (c .before .before .before .before .before .before .put-step-reason .ensures) ⨾
+    puts-as (set-reason _ (c .before .before .before .before .before .before .before .before .before .before .before .before .before .before .before .before .before .before .before .before .before .before .before .args .k) (omega arith)) (c .before .before .before .before .before .before .put-step-reason .ensures) ⨾
     c .before .before .put-floor .ensures
 
 pub put-cut-spec : {M : Type 1} → statement M
