@@ -4,7 +4,7 @@ use std::sync::atomic::{AtomicU32, Ordering};
 use std::thread;
 use std::time::Instant;
 
-extern "C" {
+unsafe extern "C" {
     fn floor_by_exponent(x: f32) -> f32;
     fn floor_by_rounding(x: f32) -> f32;
     fn fract_by_exponent(x: f32) -> f32;
