@@ -4,19 +4,17 @@ use mathlib.Core.Path.{_≡_, refl, sym, ap, _∙_, subst}
 use mathlib.Core.Bool.{Bool, true, false, cond, false≢true, true≢false}
 use mathlib.Core.List.{_++_}
 use Prim.Native.Nat.{ℕ, zero, suc, _+_, _-_, _*_, _/_, _%_, _^_, _≤_, _<_}
-use native.Mathlib.Nat.{mod-lt, div-add-mod', div-eq-of-lt-le, div-le-self, le-trans}
+use native.Mathlib.Nat.{mod-lt, div-add-mod', div-le-self, le-trans}
 use native.Mathlib.Numerals.{add-one}
 use native.Mathlib.Omega.{arith}
 use lib.Dec.{T}
-use lib.IntN.{ℤ, pos, negsuc, negℤ}
+use lib.IntN.{ℤ, pos, negsuc}
 use lib.Pow.{pow-pos, pow-mono}
-use lib.Ieee.{Float, nan, inf, fin, binary32, up, down, ofBits, neg, lt, fits}
-use lib.Ieee.Fits.{down-pos}
+use lib.Ieee.{Float, nan, inf, fin, binary32, ofBits, neg, lt, fits}
 use lib.Ieee.Exact.{HasValue}
 use lib.Ieee.Bits.{ofBits-fits}
-use lib.Ieee.Nearest.{div-same}
 use borrow.Author.Tests.{lt-leb, le-leb}
-use Rattle.exact.specs.Fraction.{floorOver, floorℚ}
+use Rattle.exact.specs.Fraction.{floorℚ}
 use Rattle.exact.specs.Value.{value}
 use Rattle.exact.specs.Binary32.{bits, zero₃₂, one₃₂}
 use Rattle.math.proofs.Whole.{Whole}
