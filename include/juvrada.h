@@ -155,7 +155,10 @@ uint32_t juvrada_captions(const uint8_t *block, size_t block_len, uint32_t code,
 /* The arpeggiator's gates, in steps of its clock: none if byte 160 is 0, otherwise four. */
 juvrada_count_result juvrada_gates(const uint8_t *block, size_t block_len, float start[JUVRADA_GATES], float end[JUVRADA_GATES]);
 
-/* The bars that the gates make: gates that touch are one bar. */
+/*
+ * The bars that a page draws: each gate is one of its own, also where it ends just where the next one starts. So they are what juvrada_gates gives: none
+ * if byte 160 is 0, otherwise four; at 255 from 0 to 1, 1 to 2, 2 to 3 and 3 to 4.
+ */
 juvrada_count_result juvrada_bars(const uint8_t *block, size_t block_len, float start[JUVRADA_GATES], float end[JUVRADA_GATES]);
 
 /*

@@ -1,5 +1,5 @@
 //! Compares everything that the static library offers with the unchanged reference: equal bits, NaN with NaN, zero with zero. What the reference
-//! doesn't have is restated here: steps (beside its walk, in answers.rs), strips, captions, bars and refusals. Every difference is printed with its input.
+//! doesn't have is restated here: steps (beside its walk, in answers.rs), strips, captions and refusals; its gates are the bars too. Every difference is printed with its input.
 
 use crate::answers::{
     self, POSITIONS, READ, Setting, Taps, block, build, kind, neighbours, once_steps, place, scale, slewed, steps_of,
@@ -314,23 +314,15 @@ impl Work<'_> {
         let gates: Vec<(f32, f32)> = arpeggiator_gates(program)
             .map(|gate| (gate.start(), gate.end()))
             .collect();
-        // A gate that starts where the bar before it ends prolongs that bar.
-        let mut bars: Vec<(f32, f32)> = Vec::new();
-        for &(start, end) in &gates {
-            match bars.last_mut() {
-                Some(bar) if bar.1 == start => bar.1 = end,
-                _ => bars.push((start, end)),
-            }
-        }
         let byte = program.0[160];
         let (mut start, mut end) = (Lent::new(GATES_DRAWN), Lent::new(GATES_DRAWN));
         let ours = unsafe { juvrada::juvrada_gates(program.0.as_ptr(), BLOCK, start.pointer(), end.pointer()) };
         self.same_stretches("gates", byte, ours, &start, &end, &gates);
         let (mut start, mut end) = (Lent::new(GATES_DRAWN), Lent::new(GATES_DRAWN));
         let ours = unsafe { juvrada::juvrada_bars(program.0.as_ptr(), BLOCK, start.pointer(), end.pointer()) };
-        self.same_stretches("bars", byte, ours, &start, &end, &bars);
+        self.same_stretches("bars", byte, ours, &start, &end, &gates);
         self.count(Counted::Gates, gates.len());
-        self.count(Counted::Bars, bars.len());
+        self.count(Counted::Bars, gates.len());
     }
 
     fn same_stretches(

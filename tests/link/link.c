@@ -129,11 +129,12 @@ static void gates(void) {
     EXPECT(r.refusal == JUVRADA_ACCEPTED && r.count == 0 && start[0] == 9.0f && end[0] == 9.0f);
     block[160] = 255;
     r = juvrada_bars(block, sizeof block, start, end);
-    EXPECT(r.refusal == JUVRADA_ACCEPTED && r.count == 1);
-    EXPECT(start[0] == 0.0f && end[0] == 4.0f && start[1] == 9.0f && end[1] == 9.0f);
-    r = juvrada_gates(block, sizeof block, start, end);
     EXPECT(r.refusal == JUVRADA_ACCEPTED && r.count == 4);
     for (size_t i = 0; i < JUVRADA_GATES; i++) EXPECT(start[i] == (float)i && end[i] == (float)(i + 1));
+    block[160] = 51;
+    r = juvrada_gates(block, sizeof block, start, end);
+    EXPECT(r.refusal == JUVRADA_ACCEPTED && r.count == 4);
+    for (size_t i = 0; i < JUVRADA_GATES; i++) EXPECT(start[i] == (float)i && end[i] == (float)i + 0.2f);
     block[160] = 0;
 }
 

@@ -73,8 +73,8 @@ fn main() {
     assert_eq!((r.refusal, r.count, start, end), (ACCEPTED, 0, [9.0; 4], [9.0; 4]));
     block[160] = 255;
     let r = unsafe { juvrada_bars(block.as_ptr(), BLOCK, start.as_mut_ptr(), end.as_mut_ptr()) };
-    assert_eq!((r.refusal, r.count), (ACCEPTED, 1));
-    assert_eq!((start, end), ([0.0, 9.0, 9.0, 9.0], [4.0, 9.0, 9.0, 9.0]));
+    assert_eq!((r.refusal, r.count), (ACCEPTED, 4));
+    assert_eq!((start, end), ([0.0, 1.0, 2.0, 3.0], [1.0, 2.0, 3.0, 4.0]));
 
     let (taps, tall) = ([0.5, f32::NAN, 0.0, 0.0], [0.75, 1.0, 1.0, 1.0]);
     let r = unsafe { juvrada_taps_height(taps.as_ptr(), tall.as_ptr(), 2, 0.5) };

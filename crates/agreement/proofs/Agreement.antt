@@ -9,7 +9,7 @@ use Rattle.codes.specs.Codes.{codeOf}
 use Rattle.code_bytes.specs.Bytes.{Agree, bytesOf, byteAt, gatesByte, blockLength}
 use Rattle.block.specs.Refusals.{chosenOf}
 use Rattle.block.proofs.Agreement.{agreement-chosen}
-use Rattle.block_gates.specs.Answers.{gatesAnswer, barsAnswer}
+use Rattle.block_gates.specs.Answers.{ofByte, gatesAnswer, barsAnswer}
 use Rattle.agreement.specs.Agreement.{SameAnswers}
 
 pub same-answers : (c : Code) (x y : List ℕ) (code : ℕ) → length x ≡ blockLength → length y ≡ blockLength → codeOf code ≡ Known c → Agree (bytesOf c) (byteAt x) (byteAt y)
@@ -33,9 +33,8 @@ same-answers c x y code lx ly k h =
     e = agreement-chosen c x y code lx ly k h
 
 pub same-gates : (x y : List ℕ) → length x ≡ blockLength → length y ≡ blockLength → byteAt x gatesByte ≡ byteAt y gatesByte → gatesAnswer x ≡ gatesAnswer y
-unfolding gatesAnswer
+unfolding ofByte
 same-gates x y lx ly e = simp (lx, ly, e)
 
 pub same-bars : (x y : List ℕ) → length x ≡ blockLength → length y ≡ blockLength → byteAt x gatesByte ≡ byteAt y gatesByte → barsAnswer x ≡ barsAnswer y
-unfolding barsAnswer
-same-bars x y lx ly e = simp (same-gates x y lx ly e)
+same-bars = same-gates

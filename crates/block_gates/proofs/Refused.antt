@@ -7,22 +7,19 @@ use lib.Dec.{eqb}
 use lib.ListN.{length}
 use Rattle.refusals.specs.Refusals.{accepted, checkBlock, answerRefusal}
 use Rattle.code_bytes.specs.Bytes.{blockLength}
+use Rattle.gates.specs.declared.Gates.{Gates}
 use Rattle.block_gates.specs.declared.GatesAnswer.{GatesAnswer}
-use Rattle.block_gates.specs.Answers.{gatesAnswer, barsAnswer}
+use Rattle.block_gates.specs.Answers.{ofByte}
 use Rattle.block_gates.specs.Promises.{GatesAnswered}
 
-gates-refused : (block : List ℕ) → answerRefusal (gatesAnswer block .answer) ≡ checkBlock (length block) accepted
-unfolding gatesAnswer checkBlock
-gates-refused block = go (eqb (length block) blockLength) _ _ refl refl
+refused : (given : ℕ → Gates) (block : List ℕ) → answerRefusal (ofByte given block .answer) ≡ checkBlock (length block) accepted
+unfolding ofByte checkBlock
+refused given block = go (eqb (length block) blockLength) _ _ refl refl
   where
     go : (b : Bool) (x y : GatesAnswer) → answerRefusal (x .answer) ≡ accepted → answerRefusal (y .answer) ≡ 1
         → answerRefusal (cond b x y .answer) ≡ cond b accepted 1
     go true x y e f = e
     go false x y e f = f
 
-pub gates-answered : {block : List ℕ} {r : GatesAnswer} → r ≡ gatesAnswer block → GatesAnswered gatesAnswer block r
-gates-answered {block} e = record { equation = e; refusal = ap (λ (x : GatesAnswer). answerRefusal (x .answer)) e ∙ gates-refused block }
-
-pub bars-answered : {block : List ℕ} {r : GatesAnswer} → r ≡ barsAnswer block → GatesAnswered barsAnswer block r
-unfolding barsAnswer
-bars-answered {block} e = record { equation = e; refusal = ap (λ (x : GatesAnswer). answerRefusal (x .answer)) e ∙ gates-refused block }
+pub answered : (given : ℕ → Gates) {block : List ℕ} {r : GatesAnswer} → r ≡ ofByte given block → GatesAnswered (ofByte given) block r
+answered given {block} e = record { equation = e; refusal = ap (λ (x : GatesAnswer). answerRefusal (x .answer)) e ∙ refused given block }

@@ -4,20 +4,22 @@ use mathlib.Core.List.{List}
 use Prim.Native.Nat.{ℕ}
 use lib.Dec.{eqb}
 use lib.ListN.{length}
-use Rattle.gates.specs.Gates.{gatesOf}
-use Rattle.bars.specs.Bars.{barsOf}
+use Rattle.gates.specs.Gates.{gatesOf, barsOf}
+use Rattle.gates.specs.declared.Gates.{Gates}
 use Rattle.refusals.specs.declared.Refusal.the-variants.{Block}
 use Rattle.refusals.specs.declared.Answer.the-variants.{Accepted, Refused as IsRefused}
 use Rattle.code_bytes.specs.Bytes.{byteAt, gatesByte, blockLength}
 use Rattle.block_gates.specs.declared.GatesAnswer.{GatesAnswer}
 
--- The gates meet the first refusal only; beside it there are none, as of a byte of 0.
-unfoldable pub gatesAnswer : List ℕ → GatesAnswer
-gatesAnswer block =
+-- What a byte gives, of the byte of a block. The first refusal alone is met; beside it stands what a byte of 0 gives, which is none.
+unfoldable pub ofByte : (ℕ → Gates) → List ℕ → GatesAnswer
+ofByte given block =
     cond (eqb (length block) blockLength)
-    (record { answer = Accepted; gates = gatesOf (byteAt block gatesByte) })
-    (record { answer = IsRefused Block; gates = gatesOf 0 })
+    (record { answer = Accepted; gates = given (byteAt block gatesByte) })
+    (record { answer = IsRefused Block; gates = given 0 })
 
--- The bars are the gates, joined.
-unfoldable pub barsAnswer : List ℕ → GatesAnswer
-barsAnswer block = record { answer = gatesAnswer block .answer; gates = barsOf (gatesAnswer block .gates) }
+abbrev pub gatesAnswer : List ℕ → GatesAnswer
+gatesAnswer = ofByte gatesOf
+
+abbrev pub barsAnswer : List ℕ → GatesAnswer
+barsAnswer = ofByte barsOf

@@ -1,3 +1,4 @@
--- When there are gates, and the gates held against the Rust.
+-- When there are gates, the bars of every gate time, and the gates held against the Rust.
 pub mod OpenGates
+pub mod EveryTime
 pub mod Examples

@@ -9,10 +9,10 @@ use Rattle.lists.proofs.Every.{every, each}
 use Rattle.settings.specs.Settings.{byteOf}
 
 -- Two answers that are the same.
-alike : Bool → Bool → Bool
+unfoldable pub alike : Bool → Bool → Bool
 alike a b = cond b a (not a)
 
-alike-equal : (a b : Bool) → T (alike a b) → a ≡ b
+pub alike-equal : (a b : Bool) → T (alike a b) → a ≡ b
 unfolding alike
 alike-equal true true h = refl
 alike-equal false false h = refl

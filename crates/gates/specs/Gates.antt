@@ -26,6 +26,10 @@ gatesOf b =
     (record { places = closed ∷ closed ∷ closed ∷ closed ∷ []; count = 0 })
     (record { places = gateOf b 0 ∷ gateOf b 1 ∷ gateOf b 2 ∷ gateOf b 3 ∷ []; count = 4 })
 
+-- The bars: each gate is one of its own, also where it ends just where the next one starts.
+abbrev pub barsOf : ℕ → Gates
+barsOf b = gatesOf b
+
 -- Gate number i: past the four places, which no use reaches, a gate of NaNs.
 abbrev pub gateAt : Gates → ℕ → Gate
 gateAt gates i = getD (gates .places) i (record { start = nan; end = nan })

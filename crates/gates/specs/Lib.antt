@@ -1,2 +1,2 @@
--- The arpeggiator's gates.
+-- The arpeggiator's gates, and their bars.
 pub mod Gates

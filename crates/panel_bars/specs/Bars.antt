@@ -7,7 +7,7 @@ use Rattle.bar_paths.specs.Paths.{someBars}
 
 -- All that are used; a record has four places. They are filled, and 15 mm high.
 abbrev pub barsText : Gates → List ℕ
-barsText g = someBars (ascii "<path class='g' d='M") (ascii " 0V-1500H") g (min (g .count) 4)
+barsText g = someBars (ascii "<path class='g' d='M") (ascii " 0V-1500h15V0h15V-1500H") g (min (g .count) 4)
 
 -- Those of an older program, which lie beneath: outlines in grey, 3 mm higher, so that a longer bar does not hide them.
 abbrev pub olderBarsText : Gates → List ℕ

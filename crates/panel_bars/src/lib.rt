@@ -8,7 +8,13 @@ use text::put;
 pub fn put_bars(out: &mut [u8], at: usize, bars: Gates) -> usize
     ensures { λ r. ⌜ Puts (now (out .entry)) at (barsText bars) (now (out .exit)) r ⌝ }
 {
-    put_each_bar(out, at, b"<path class='g' d='M", b" 0V-1500H", bars)
+    put_each_bar(
+        out,
+        at,
+        b"<path class='g' d='M",
+        b" 0V-1500h15V0h15V-1500H",
+        bars,
+    )
 }
 
 // Those of an older program, which lie beneath.

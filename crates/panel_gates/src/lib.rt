@@ -2,6 +2,7 @@
 ghost use Prim.Native.Nat.{_<_};
 ghost use Rattle.text.specs.Text.{Puts};
 ghost use Rattle.panel_gates.specs.GateText.{olderGate, gateText};
+use gates::arpeggiator_gates;
 use text::put;
 
 // ---- the arpeggio's
@@ -11,21 +12,19 @@ fn put_older_gate(out: &mut [u8], at: usize, was: u8, time: u8) -> usize
     if was == time {
         return at;
     }
-    let bars = bars::bars(gates::arpeggiator_gates(was));
-    panel_bars::put_older_bars(out, at, bars)
+    panel_bars::put_older_bars(out, at, arpeggiator_gates(was))
 }
 
 // What is drawn of the gates.
 pub fn put_gate(out: &mut [u8], at: usize, was: u8, time: u8) -> usize
     ensures { λ r. ⌜ Puts (now (out .entry)) at (gateText was time) (now (out .exit)) r ⌝ }
 {
-    let bars = bars::bars(gates::arpeggiator_gates(time));
     let mut next = put(
         out,
         at,
         b"<text y='-2600'>4 steps, starts at the left edge</text>",
     );
     next = put_older_gate(out, next, was, time);
-    next = panel_bars::put_bars(out, next, bars);
+    next = panel_bars::put_bars(out, next, arpeggiator_gates(time));
     panel_bars::put_steps(out, next)
 }

@@ -9,12 +9,12 @@ use Rattle.panel_gates.proofs.put_gate.Tie as tie
 returns : tie.Need-returns
 unfolding gateText
 returns c =
-    rw (c .before .before .before .before .before .before .before .before .before .before .before .before .before .before .before .before .before .bars .ensures, c .before .before .before .before .before .before .before .before .before .before .before .before .before .before .before .before .before .before .arpeggiator-gates .ensures) at (c .before .before .before .before .before .before .before .before .before .before .before .before .before .before .put .ensures ⨾
-    c .before .before .before .before .before .before .before .before .before .before .put-older-gate .ensures ⨾
+    rw (c .before .before .before .before .before .before .before .arpeggiator-gates .ensures) at (c .before .before .before .before .before .before .before .before .before .before .before .before .before .before .before .put .ensures ⨾
+    c .before .before .before .before .before .before .before .before .before .before .before .put-older-gate .ensures ⨾
     c .before .before .before .before .before .before .put-bars .ensures ⨾
     c .before .before .put-steps .ensures)
 
 pub put-gate-spec : {M : Type 1} → statement M
 put-gate-spec = tie.close
-    (tie.spec (λ c κs. search needs) (λ c κs. search needs) (λ c. refl) (λ c κs. search needs) (λ c κs. search needs)
-    (λ c κs. search needs) (λ c κs. search needs) (λ c. search needs) returns)
+    (tie.spec (λ c. refl) (λ c κs. search needs) (λ c κs. search needs) (λ c κs. search needs) (λ c κs. search needs)
+    (λ c κs. search needs) (λ c. search needs) returns)

@@ -12,9 +12,7 @@ returns c = simp (eq-eqb _ _ (c .if1 .taken)) (puts-none _ _)
 
 returns-2 : tie.Need-returns-2
 unfolding olderGate
-returns-2 c = simp (ne-eqb _ _ (c .before .before .before .before .before .before .if1 .left)) (rw (c .before .before .before .before .bars .ensures, c .before .before .before .before .before .arpeggiator-gates .ensures) at (c .before .before .put-older-bars .ensures))
+returns-2 c = simp (ne-eqb _ _ (c .before .before .before .before .before .if1 .left)) (rw (c .before .before .before .arpeggiator-gates .ensures) at (c .before .before .put-older-bars .ensures))
 
 pub put-older-gate-spec : {M : Type 1} → statement M
-put-older-gate-spec = tie.close
-    (tie.spec returns (λ c κs. search needs) (λ c κs. search needs) (λ c κs. search needs) (λ c. search needs)
-    returns-2)
+put-older-gate-spec = tie.close (tie.spec returns (λ c κs. search needs) (λ c κs. search needs) (λ c. search needs) returns-2)

@@ -1,2 +1,0 @@
--- The bars of the arpeggiator's gates.
-pub mod Bars
