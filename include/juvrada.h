@@ -156,8 +156,8 @@ uint32_t juvrada_captions(const uint8_t *block, size_t block_len, uint32_t code,
 juvrada_count_result juvrada_gates(const uint8_t *block, size_t block_len, float start[JUVRADA_GATES], float end[JUVRADA_GATES]);
 
 /*
- * The bars that a page draws: each gate is one of its own, also where it ends just where the next one starts. So they are what juvrada_gates gives: none
- * if byte 160 is 0, otherwise four; at 255 from 0 to 1, 1 to 2, 2 to 3 and 3 to 4.
+ * The bars that a page draws: each gate is one of its own, for the instrument strikes every step anew. So they are what juvrada_gates gives: none if
+ * byte 160 is 0, otherwise four; at 255 from 0 to 1, 1 to 2, 2 to 3 and 3 to 4, each ending where the next one starts.
  */
 juvrada_count_result juvrada_bars(const uint8_t *block, size_t block_len, float start[JUVRADA_GATES], float end[JUVRADA_GATES]);
 

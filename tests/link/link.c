@@ -123,16 +123,21 @@ static void captions(void) {
     EXPECT(juvrada_captions(block, sizeof block, 1, out, 0) == JUVRADA_BAD_STRIP && out[0] == JUVRADA_NO_CAPTION);
 }
 
-static void gates(void) {
+typedef juvrada_count_result stretches(const uint8_t *, size_t, float *, float *);
+
+/* The gates, or the bars, which are the gates. */
+static void gates(stretches *find) {
     float start[JUVRADA_GATES] = {9.0f, 9.0f, 9.0f, 9.0f}, end[JUVRADA_GATES] = {9.0f, 9.0f, 9.0f, 9.0f};
-    juvrada_count_result r = juvrada_gates(block, sizeof block, start, end);
+    juvrada_count_result r = find(block, sizeof block, start, end);
     EXPECT(r.refusal == JUVRADA_ACCEPTED && r.count == 0 && start[0] == 9.0f && end[0] == 9.0f);
     block[160] = 255;
-    r = juvrada_bars(block, sizeof block, start, end);
+    r = find(block, 241, start, end);
+    EXPECT(r.refusal == JUVRADA_BAD_BLOCK && r.count == 0 && start[0] == 9.0f && end[0] == 9.0f);
+    r = find(block, sizeof block, start, end);
     EXPECT(r.refusal == JUVRADA_ACCEPTED && r.count == 4);
     for (size_t i = 0; i < JUVRADA_GATES; i++) EXPECT(start[i] == (float)i && end[i] == (float)(i + 1));
     block[160] = 51;
-    r = juvrada_gates(block, sizeof block, start, end);
+    r = find(block, sizeof block, start, end);
     EXPECT(r.refusal == JUVRADA_ACCEPTED && r.count == 4);
     for (size_t i = 0; i < JUVRADA_GATES; i++) EXPECT(start[i] == (float)i && end[i] == (float)i + 0.2f);
     block[160] = 0;
@@ -159,7 +164,8 @@ int main(void) {
     others();
     settings();
     captions();
-    gates();
+    gates(juvrada_gates);
+    gates(juvrada_bars);
     taps();
     return failures != 0;
 }

@@ -68,13 +68,18 @@ fn main() {
     let refusal = unsafe { juvrada_captions(block.as_ptr(), BLOCK, 0, captions.as_mut_ptr(), 3) };
     assert_eq!((refusal, captions), (ACCEPTED, [MARK_ATTACK, MARK_SUSTAIN, MARK_RELEASE, 9]));
 
-    let (mut start, mut end) = ([9.0; GATES], [9.0; GATES]);
-    let r = unsafe { juvrada_gates(block.as_ptr(), BLOCK, start.as_mut_ptr(), end.as_mut_ptr()) };
-    assert_eq!((r.refusal, r.count, start, end), (ACCEPTED, 0, [9.0; 4], [9.0; 4]));
-    block[160] = 255;
-    let r = unsafe { juvrada_bars(block.as_ptr(), BLOCK, start.as_mut_ptr(), end.as_mut_ptr()) };
-    assert_eq!((r.refusal, r.count), (ACCEPTED, 4));
-    assert_eq!((start, end), ([0.0, 1.0, 2.0, 3.0], [1.0, 2.0, 3.0, 4.0]));
+    for find in [juvrada_gates, juvrada_bars] {
+        let (mut start, mut end) = ([9.0; GATES], [9.0; GATES]);
+        block[160] = 0;
+        let r = unsafe { find(block.as_ptr(), BLOCK, start.as_mut_ptr(), end.as_mut_ptr()) };
+        assert_eq!((r.refusal, r.count, start, end), (ACCEPTED, 0, [9.0; 4], [9.0; 4]));
+        block[160] = 255;
+        let r = unsafe { find(block.as_ptr(), BLOCK - 1, start.as_mut_ptr(), end.as_mut_ptr()) };
+        assert_eq!((r.refusal, r.count, start, end), (BAD_BLOCK, 0, [9.0; 4], [9.0; 4]));
+        let r = unsafe { find(block.as_ptr(), BLOCK, start.as_mut_ptr(), end.as_mut_ptr()) };
+        assert_eq!((r.refusal, r.count), (ACCEPTED, 4));
+        assert_eq!((start, end), ([0.0, 1.0, 2.0, 3.0], [1.0, 2.0, 3.0, 4.0]));
+    }
 
     let (taps, tall) = ([0.5, f32::NAN, 0.0, 0.0], [0.75, 1.0, 1.0, 1.0]);
     let r = unsafe { juvrada_taps_height(taps.as_ptr(), tall.as_ptr(), 2, 0.5) };

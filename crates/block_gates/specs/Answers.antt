@@ -11,7 +11,7 @@ use Rattle.refusals.specs.declared.Answer.the-variants.{Accepted, Refused as Is
 use Rattle.code_bytes.specs.Bytes.{byteAt, gatesByte, blockLength}
 use Rattle.block_gates.specs.declared.GatesAnswer.{GatesAnswer}
 
--- What a byte gives, of the byte of a block. The first refusal alone is met; beside it stands what a byte of 0 gives, which is none.
+-- What is given by a block's byte, gates or bars. They meet the first refusal only; beside it stands what a byte of 0 gives: none.
 unfoldable pub ofByte : (ℕ → Gates) → List ℕ → GatesAnswer
 ofByte given block =
     cond (eqb (length block) blockLength)

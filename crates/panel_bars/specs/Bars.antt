@@ -5,7 +5,7 @@ use Rattle.text.specs.Text.{ascii}
 use Rattle.gates.specs.declared.Gates.{Gates}
 use Rattle.bar_paths.specs.Paths.{someBars}
 
--- All that are used; a record has four places. They are filled, and 15 mm high.
+-- All that are used; a record has four places. They are filled and 15 mm high, and each has a thick edge where it starts: three lines side by side, so that bars that touch are seen as so many.
 abbrev pub barsText : Gates → List ℕ
 barsText g = someBars (ascii "<path class='g' d='M") (ascii " 0V-1500h15V0h15V-1500H") g (min (g .count) 4)
 

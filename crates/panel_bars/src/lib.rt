@@ -5,6 +5,7 @@ use bar_paths::put_each_bar;
 use gates::Gates;
 use text::put;
 
+// Those of the program, each with a thick edge where it starts.
 pub fn put_bars(out: &mut [u8], at: usize, bars: Gates) -> usize
     ensures { λ r. ⌜ Puts (now (out .entry)) at (barsText bars) (now (out .exit)) r ⌝ }
 {
