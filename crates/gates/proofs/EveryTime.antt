@@ -30,8 +30,8 @@ abbrev wholeStep : ℕ → Gate
 wholeStep s = record { start = ofInt binary32 (pos s); end = ofInt binary32 (pos (suc s)) }
 
 pub bars-255 : barsOf 255 ≡ record { places = wholeStep 0 ∷ wholeStep 1 ∷ wholeStep 2 ∷ wholeStep 3 ∷ []; count = 4 }
-unfolding gatesOf gateOf byteOf ofBits ofInt add div
-bars-255 = refl
+unfolding gateOf byteOf ofBits ofInt add div
+bars-255 = bars-from-1 255 (omega arith)
 
 -- ---- where a bar ends beside the next one
 -- Where bar s ends, and where the next one starts.

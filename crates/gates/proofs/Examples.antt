@@ -1,4 +1,4 @@
--- GATES HELD AGAINST THE RUST. The numbers of a row are those of generator.rs (deepmind-midi, commit a25f50498d), over a block with the row's byte. Assumes nothing.
+-- GATES HELD AGAINST THE RUST, AND BARS TOO. The numbers of a row are those of the gates of generator.rs (deepmind-midi, commit a25f50498d), over a block with the row's byte. Assumes nothing.
 use mathlib.Core.Bool.{Bool, _&&_}
 use mathlib.Core.List.{List, [], _∷_}
 use Prim.Native.Nat.{ℕ}
@@ -8,14 +8,15 @@ use lib.Ieee.{binary32, ofBits, toBits, ofInt, add, div}
 use Rattle.lists.proofs.Rows.{allPass, allMatch}
 use Rattle.settings.specs.Settings.{byteOf}
 use Rattle.gates.specs.declared.Gate.{Gate}
-use Rattle.gates.specs.Gates.{gateOf, gatesOf}
+use Rattle.gates.specs.declared.Gates.{Gates}
+use Rattle.gates.specs.Gates.{gateOf, gatesOf, barsOf}
 
 -- A gate is a pair: the bits of its start and of its end.
 isGate : ℕ × ℕ → Gate → Bool
 isGate r g = eqb (toBits binary32 (g .start)) (r .0) && eqb (toBits binary32 (g .end)) (r .1)
 
-hasGates : ℕ × List (ℕ × ℕ) → Bool
-hasGates r = allMatch isGate (r .1) (take (gatesOf (r .0) .count) (gatesOf (r .0) .places))
+hasGates : (ℕ → Gates) → ℕ × List (ℕ × ℕ) → Bool
+hasGates given r = allMatch isGate (r .1) (take (given (r .0) .count) (given (r .0) .places))
 
 gateRows : List (ℕ × List (ℕ × ℕ))
 gateRows =
@@ -26,6 +27,10 @@ gateRows =
     ∷ (255, (0x0000_0000, 0x3f80_0000) ∷ (0x3f80_0000, 0x4000_0000) ∷ (0x4000_0000, 0x4040_0000) ∷ (0x4040_0000, 0x4080_0000) ∷ [])
     ∷ []
 
-gates-agree : T (allPass hasGates gateRows)
+gates-agree : T (allPass (hasGates gatesOf) gateRows)
 unfolding allPass allMatch hasGates isGate gateRows gatesOf gateOf byteOf toBits ofBits ofInt add div
 gates-agree = tt
+
+bars-agree : T (allPass (hasGates barsOf) gateRows)
+unfolding allPass allMatch hasGates isGate gateRows gatesOf gateOf byteOf toBits ofBits ofInt add div
+bars-agree = tt
