@@ -84,6 +84,14 @@ enum Counted {
     Refusals,
 }
 
+type Find = unsafe extern "C" fn(*const u8, usize, *mut f32, *mut f32) -> CountResult;
+
+/// What finds the gates, and the bars, which are the gates too.
+const STRETCHES: [(&str, Find, Counted); 2] = [
+    ("gates", juvrada::juvrada_gates, Counted::Gates),
+    ("bars", juvrada::juvrada_bars, Counted::Bars),
+];
+
 /// What all threads share.
 struct Shared {
     counts: [AtomicU64; COUNTED],
@@ -314,31 +322,16 @@ impl Work<'_> {
         let gates: Vec<(f32, f32)> = arpeggiator_gates(program)
             .map(|gate| (gate.start(), gate.end()))
             .collect();
-        let byte = program.0[160];
-        let (mut start, mut end) = (Lent::new(GATES_DRAWN), Lent::new(GATES_DRAWN));
-        let ours = unsafe { juvrada::juvrada_gates(program.0.as_ptr(), BLOCK, start.pointer(), end.pointer()) };
-        self.same_stretches("gates", byte, ours, &start, &end, &gates);
-        let (mut start, mut end) = (Lent::new(GATES_DRAWN), Lent::new(GATES_DRAWN));
-        let ours = unsafe { juvrada::juvrada_bars(program.0.as_ptr(), BLOCK, start.pointer(), end.pointer()) };
-        self.same_stretches("bars", byte, ours, &start, &end, &gates);
-        self.count(Counted::Gates, gates.len());
-        self.count(Counted::Bars, gates.len());
-    }
-
-    fn same_stretches(
-        &self,
-        what: &str,
-        byte: u8,
-        ours: CountResult,
-        start: &Lent<f32>,
-        end: &Lent<f32>,
-        theirs: &[(f32, f32)],
-    ) {
-        let n = theirs.len();
-        let same = (0..n).all(|i| agree(start.first(n)[i], theirs[i].0) && agree(end.first(n)[i], theirs[i].1));
-        if !same || ours != accepted(n) || !start.kept_from(n) || !end.kept_from(n) {
-            let (start, end) = (start.first(GATES_DRAWN), end.first(GATES_DRAWN));
-            self.differ(|| format!("{what} of byte {byte}: {ours:?} {start:?} {end:?}, expected {theirs:?}"));
+        let n = gates.len();
+        for (what, find, counted) in STRETCHES {
+            let (mut start, mut end) = (Lent::new(GATES_DRAWN), Lent::new(GATES_DRAWN));
+            let ours = unsafe { find(program.0.as_ptr(), BLOCK, start.pointer(), end.pointer()) };
+            let same = (0..n).all(|i| agree(start.first(n)[i], gates[i].0) && agree(end.first(n)[i], gates[i].1));
+            if !same || ours != accepted(n) || !start.kept_from(n) || !end.kept_from(n) {
+                let (byte, start, end) = (program.0[160], start.first(GATES_DRAWN), end.first(GATES_DRAWN));
+                self.differ(|| format!("{what} of byte {byte}: {ours:?} {start:?} {end:?}, expected {gates:?}"));
+            }
+            self.count(counted, n);
         }
     }
 
@@ -441,18 +434,14 @@ impl Work<'_> {
             see(r == none(curve) && out.kept_from(0), format!("settings {r:?}"));
         }
         if block != 0 {
-            let (mut start, mut end) = (Lent::new(GATES_DRAWN), Lent::new(GATES_DRAWN));
-            let r = unsafe { juvrada::juvrada_gates(at, len, start.pointer(), end.pointer()) };
-            see(
-                r == none(block) && start.kept_from(0) && end.kept_from(0),
-                format!("gates {r:?}"),
-            );
-            let (mut start, mut end) = (Lent::new(GATES_DRAWN), Lent::new(GATES_DRAWN));
-            let r = unsafe { juvrada::juvrada_bars(at, len, start.pointer(), end.pointer()) };
-            see(
-                r == none(block) && start.kept_from(0) && end.kept_from(0),
-                format!("bars {r:?}"),
-            );
+            for (what, find, _) in STRETCHES {
+                let (mut start, mut end) = (Lent::new(GATES_DRAWN), Lent::new(GATES_DRAWN));
+                let r = unsafe { find(at, len, start.pointer(), end.pointer()) };
+                see(
+                    r == none(block) && start.kept_from(0) && end.kept_from(0),
+                    format!("{what} {r:?}"),
+                );
+            }
         }
         for text in wrong {
             self.differ(|| {
