@@ -1,8 +1,8 @@
 /*
  * Juvrada: the curves of a DeepMind 12 program, for a printer of sheets. Link target/staticlib/libjuvrada.a (x86-64).
  *
- * A block is the program's 242 bytes; parameter n is byte n. Every function but the taps' takes it as a pointer and a length, and all but the
- * gates and the bars a code:
+ * A block is the program's 242 bytes; parameter n is byte n. Every function but the taps' and juvrada_curve_for_end takes it as a pointer and a
+ * length, and all but the gates and the bars a code:
  *
  *   0, 1, 2   VCA, VCF, Mod envelope          9         low-pass filter
  *   3, 4      LFO 1, 2                        10        high-pass filter
@@ -17,6 +17,7 @@
  *   JUVRADA_BAD_BLOCK    the block is not JUVRADA_BLOCK bytes long
  *   JUVRADA_BAD_CODE     the code is above 13, 256 and more among them
  *   JUVRADA_BAD_STRIP    the strip, or the captions, are fewer than JUVRADA_MIN_STRIP or more than JUVRADA_MAX_STRIP
+ *   JUVRADA_BAD_LEVEL    the wanted level is NaN, below 0 or above 1
  *
  * A refused call leaves everything lent to it as it was, and the other fields of its result are 0. Otherwise `refusal` is JUVRADA_ACCEPTED.
  * Where a result has a `count`, that many entries of the lent arrays are written, and those from `count` on are left as they were.
@@ -52,6 +53,7 @@ extern "C" {
 #define JUVRADA_BAD_BLOCK 1
 #define JUVRADA_BAD_CODE 2
 #define JUVRADA_BAD_STRIP 3
+#define JUVRADA_BAD_LEVEL 4
 
 /* Kinds of marks. The first four are the starts of segments, and captions have the same numbers. */
 #define JUVRADA_MARK_ATTACK 0
@@ -103,6 +105,13 @@ typedef struct {
     uint32_t refusal;
     uint32_t anchored;
 } juvrada_anchored_result;
+
+typedef struct {
+    uint32_t refusal;
+    uint32_t found;
+    uint32_t byte;
+    uint32_t tried;
+} juvrada_curve_result;
 
 /* The height of the curve at t, and the steps of the slew walk to it: 0 of everything but an LFO whose slew is not 0. */
 juvrada_height_result juvrada_height(const uint8_t *block, size_t block_len, uint32_t code, float t);
@@ -160,6 +169,13 @@ juvrada_count_result juvrada_gates(const uint8_t *block, size_t block_len, float
  * byte 160 is 0, otherwise four; at 255 from 0 to 1, 1 to 2, 2 to 3 and 3 to 4, each ending where the next one starts.
  */
 juvrada_count_result juvrada_bars(const uint8_t *block, size_t block_len, float start[JUVRADA_GATES], float end[JUVRADA_GATES]);
+
+/*
+ * A curve byte for the sustain, so that its end, the fifth setting of an envelope with this sustain byte, lies within 1/512 of a wanted level. The
+ * distance is that of the two numbers, with nothing rounded, and 1/512 itself is near enough. All 256 bytes are tried, from 0 upward: `found` is 1, with
+ * the byte and `tried` one more than it; or it is 0, where no byte will do, with byte 0 and `tried` 256. A wanted level of -0 is 0.
+ */
+juvrada_curve_result juvrada_curve_for_end(uint8_t sustain, float wanted);
 
 /*
  * A delay's taps, as an impulse train: where each falls, how tall it is, and how many of the four are used, a number above 4 being 4. Any floats

@@ -14,6 +14,7 @@ pub const ACCEPTED: u32 = 0;
 pub const BAD_BLOCK: u32 = 1;
 pub const BAD_CODE: u32 = 2;
 pub const BAD_STRIP: u32 = 3;
+pub const BAD_LEVEL: u32 = 4;
 
 /// Kinds of marks. The first four are captions too.
 pub const MARK_ATTACK: u8 = 0;
@@ -76,6 +77,15 @@ pub struct AnchoredResult {
     pub anchored: u32,
 }
 
+#[repr(C)]
+#[derive(Clone, Copy, Debug, PartialEq, Eq)]
+pub struct CurveResult {
+    pub refusal: u32,
+    pub found: u32,
+    pub byte: u32,
+    pub tried: u32,
+}
+
 unsafe extern "C" {
     pub fn juvrada_height(block: *const u8, block_len: usize, code: u32, t: f32) -> HeightResult;
     pub fn juvrada_strip(block: *const u8, block_len: usize, code: u32, out: *mut f32, out_len: usize) -> StripResult;
@@ -88,6 +98,7 @@ unsafe extern "C" {
     pub fn juvrada_captions(block: *const u8, block_len: usize, code: u32, out: *mut u8, out_len: usize) -> u32;
     pub fn juvrada_gates(block: *const u8, block_len: usize, start: *mut f32, end: *mut f32) -> CountResult;
     pub fn juvrada_bars(block: *const u8, block_len: usize, start: *mut f32, end: *mut f32) -> CountResult;
+    pub fn juvrada_curve_for_end(sustain: u8, wanted: f32) -> CurveResult;
     pub fn juvrada_taps_height(at: *const f32, tall: *const f32, used: u32, t: f32) -> HeightResult;
     pub fn juvrada_taps_marks(
         at: *const f32,

@@ -1,11 +1,12 @@
 //! Compares everything that the static library offers with the unchanged reference: equal bits, NaN with NaN, zero with zero. What the reference
-//! doesn't have is restated here: steps (beside its walk, in answers.rs), strips, captions and refusals; its gates are the bars too. Every difference is printed with its input.
+//! doesn't have is restated here: steps (beside its walk, in answers.rs), strips, captions, which curve bytes end near a level, and refusals; its gates are the bars too.
+//! Every difference is printed with its input.
 
 use crate::answers::{
     self, POSITIONS, READ, Setting, Taps, block, build, kind, neighbours, once_steps, place, scale, slewed, steps_of,
 };
 use crate::generator::{GATES_DRAWN, Generator, arpeggiator_gates};
-use crate::juvrada::{self, BLOCK, CountResult, MAX_MARKS, MAX_SETTINGS, MAX_STRIP, MIN_STRIP, StripResult};
+use crate::juvrada::{self, BLOCK, CountResult, CurveResult, MAX_MARKS, MAX_SETTINGS, MAX_STRIP, MIN_STRIP, StripResult};
 use crate::random::Random;
 use crate::stand_in::Program;
 use std::sync::atomic::{AtomicU64, AtomicUsize, Ordering::Relaxed};
@@ -63,7 +64,7 @@ impl<T: Entry> Lent<T> {
 
 // ---- counts
 
-const COUNTED: usize = 14;
+const COUNTED: usize = 16;
 
 /// How many of each were compared.
 #[derive(Clone, Copy)]
@@ -81,6 +82,8 @@ enum Counted {
     Bars,
     TapHeights,
     TapMarks,
+    Curves,
+    NoCurves,
     Refusals,
 }
 
@@ -358,6 +361,26 @@ impl Work<'_> {
         self.count(Counted::TapMarks, n);
     }
 
+    /// A curve byte whose end is near the wanted level, among those that the reference stores; or that there is none, or that the level is none.
+    fn curve(&mut self, sustain: u8, ends: &[f32], wanted: f32) {
+        let ours = unsafe { juvrada::juvrada_curve_for_end(sustain, wanted) };
+        let answer = |refusal, found, byte, tried| CurveResult { refusal, found, byte, tried };
+        let end = ends.get(ours.byte as usize).filter(|_| ours.found == 1);
+        let (counted, right) = if !(0.0..=1.0).contains(&wanted) {
+            (Counted::Refusals, ours == answer(4, 0, 0, 0))
+        } else if let Some(&end) = end {
+            (Counted::Curves, near(end, wanted) && ours == answer(0, 1, ours.byte, ours.byte + 1))
+        } else {
+            let none = !ends.iter().any(|&end| near(end, wanted));
+            (Counted::NoCurves, none && ours == answer(0, 0, 0, 256))
+        };
+        if !right {
+            let b = wanted.to_bits();
+            self.differ(|| format!("curve byte for sustain {sustain} and {wanted} ({b:08x}): {ours:?}, end {end:?}"));
+        }
+        self.count(counted, 1);
+    }
+
     /// Every function that looks at the block, with input that is refused: the refusal, zeros beside it, and everything lent as it was.
     fn refused(&mut self, bytes: &[u8], code: u32, n: usize) {
         let (at, len) = (bytes.as_ptr(), bytes.len());
@@ -457,6 +480,25 @@ fn accepted(n: usize) -> CountResult {
         refusal: 0,
         count: n as u32,
     }
+}
+
+/// Whether two levels are at most 1/512 apart. Their difference is exact as an f64, or is rounded on its own side of 1/512.
+fn near(a: f32, b: f32) -> bool {
+    (f64::from(a) - f64::from(b)).abs() <= 1.0 / 512.0
+}
+
+/// The ends of the sustain that the reference stores, by the curve's byte.
+fn ends(sustain: u8) -> Vec<f32> {
+    let end = |curve| {
+        let mut program = Program([0; BLOCK]);
+        program.0[READ[0][2]] = sustain;
+        program.0[READ[0][6]] = curve;
+        match answers::settings(0, &build(0, &program))[4] {
+            Setting::Float(x) => x,
+            Setting::Number(_) => unreachable!("an end is a float"),
+        }
+    };
+    (0..=255).map(end).collect()
 }
 
 /// Where sample i of n lies.
@@ -613,6 +655,23 @@ fn refusals(work: &mut Work) {
     }
 }
 
+/// Wanted levels of a sustain byte: each end of it, what lies 1/512 to either side, the neighbours of all these, and numbers of every kind.
+fn wanted(work: &mut Work, sustain: u8) {
+    let ends = ends(sustain);
+    for &end in &ends {
+        for level in [end, end - 1.0 / 512.0, end + 1.0 / 512.0] {
+            for bits in [-2, -1, 0, 1, 2].map(|by| level.to_bits().wrapping_add_signed(by)) {
+                work.curve(sustain, &ends, f32::from_bits(bits));
+            }
+        }
+        let level = work.random.unit();
+        work.curve(sustain, &ends, level);
+    }
+    for bits in POSITIONS {
+        work.curve(sustain, &ends, f32::from_bits(bits));
+    }
+}
+
 /// Every length of a block that is near, and every length of a strip that is.
 fn refusal_ends(work: &mut Work) {
     let bytes = work.random.bytes(600);
@@ -704,6 +763,9 @@ fn jobs() -> Vec<Job> {
             }
         }));
     }
+    for sustain in 0..=255 {
+        all.push(Box::new(move |work| wanted(work, sustain)));
+    }
     all
 }
 
@@ -759,8 +821,8 @@ pub fn run() {
         taken.store(jobs.len(), Relaxed);
     });
     let of = |what: Counted| grouped(shared.counts[what as usize].load(Relaxed));
-    use Counted::{Bars, Captioned, Captions, Gates, Heights, Marks, Others, Refusals, Samples, Settings};
-    use Counted::{Slewed, Strips, TapHeights, TapMarks};
+    use Counted::{Bars, Captioned, Captions, Curves, Gates, Heights, Marks, NoCurves, Others, Refusals, Samples};
+    use Counted::{Settings, Slewed, Strips, TapHeights, TapMarks};
     println!("heights {}, of them slewed {}", of(Heights), of(Slewed));
     println!(
         "samples {} of {} strips, captions {} of {}",
@@ -782,6 +844,7 @@ pub fn run() {
         of(TapHeights),
         of(TapMarks)
     );
+    println!("curve bytes {}, none {}", of(Curves), of(NoCurves));
     println!("refusals {}", of(Refusals));
     let different = shared.different.load(Relaxed);
     println!(

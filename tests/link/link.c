@@ -143,6 +143,35 @@ static void gates(stretches *find) {
     block[160] = 0;
 }
 
+/* The float of a bit pattern. */
+static float bits(uint32_t b) {
+    float x;
+    memcpy(&x, &b, sizeof x);
+    return x;
+}
+
+static void curves(void) {
+    /* Sustain 0 ends at 0 at every curve byte up to 127. */
+    juvrada_curve_result r = juvrada_curve_for_end(0, 0.0f);
+    EXPECT(r.refusal == JUVRADA_ACCEPTED && r.found == 1 && r.byte < 128 && r.tried == r.byte + 1);
+    r = juvrada_curve_for_end(0, -0.0f);
+    EXPECT(r.refusal == JUVRADA_ACCEPTED && r.found == 1 && r.byte < 128 && r.tried == r.byte + 1);
+    /* The last byte alone ends at 1. */
+    r = juvrada_curve_for_end(0, 1.0f);
+    EXPECT(r.refusal == JUVRADA_ACCEPTED && r.found == 1 && r.byte == 255 && r.tried == 256);
+    /* The difference of byte 14 is 1/512 as an f32, and more as a number. */
+    r = juvrada_curve_for_end(1, bits(0x3b1c3855));
+    EXPECT(r.refusal == JUVRADA_ACCEPTED && r.found == 1 && r.byte > 14 && r.tried == r.byte + 1);
+    /* Sustain 0 rises by 2/255 from byte to byte: a level midway is farther than 1/512 from both. */
+    r = juvrada_curve_for_end(0, 2.0f / 255.0f);
+    EXPECT(r.refusal == JUVRADA_ACCEPTED && r.found == 0 && r.byte == 0 && r.tried == 256);
+    static const uint32_t refused[] = {0x80000001, 0xbf800000, 0x3f800001, 0x7f800000, 0xff800000, 0x7fc00000, 0xffc00001};
+    for (size_t i = 0; i < sizeof refused / sizeof *refused; i++) {
+        r = juvrada_curve_for_end(255, bits(refused[i]));
+        EXPECT(r.refusal == JUVRADA_BAD_LEVEL && r.found == 0 && r.byte == 0 && r.tried == 0);
+    }
+}
+
 static void taps(void) {
     static const float at[JUVRADA_TAPS] = {0.5f, 0.25f, 0.0f, 0.0f}, tall[JUVRADA_TAPS] = {0.75f, 0.5f, 1.0f, 1.0f};
     float mark_at[JUVRADA_MAX_MARKS] = {9.0f, 9.0f, 9.0f, 9.0f, 9.0f, 9.0f};
@@ -166,6 +195,7 @@ int main(void) {
     captions();
     gates(juvrada_gates);
     gates(juvrada_bars);
+    curves();
     taps();
     return failures != 0;
 }

@@ -81,6 +81,17 @@ fn main() {
         assert_eq!((start, end), ([0.0, 1.0, 2.0, 3.0], [1.0, 2.0, 3.0, 4.0]));
     }
 
+    let curve = |sustain: u8, wanted: f32| {
+        let r = unsafe { juvrada_curve_for_end(sustain, wanted) };
+        (r.refusal, r.found, r.byte, r.tried)
+    };
+    assert_eq!(curve(255, 0.0), (ACCEPTED, 1, 0, 1));
+    assert_eq!(curve(0, 1.0), (ACCEPTED, 1, 255, 256));
+    assert_eq!(curve(0, 2.0 / 255.0), (ACCEPTED, 0, 0, 256));
+    for wanted in [f32::NAN, -f32::MIN_POSITIVE, 1.0 + f32::EPSILON, f32::INFINITY, f32::NEG_INFINITY] {
+        assert_eq!(curve(128, wanted), (BAD_LEVEL, 0, 0, 0));
+    }
+
     let (taps, tall) = ([0.5, f32::NAN, 0.0, 0.0], [0.75, 1.0, 1.0, 1.0]);
     let r = unsafe { juvrada_taps_height(taps.as_ptr(), tall.as_ptr(), 2, 0.5) };
     assert_eq!((r.refusal, r.steps, r.height), (ACCEPTED, 0, 0.75));

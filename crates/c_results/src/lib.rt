@@ -36,3 +36,11 @@ pub struct AnchoredResult {
     pub refusal: u32,
     pub anchored: u32,
 }
+
+#[repr(C)]
+pub struct CurveResult {
+    pub refusal: u32,
+    pub found: u32,
+    pub byte: u32,
+    pub tried: u32,
+}

@@ -13,6 +13,7 @@ ghost use Rattle.block_marks.specs.Answers.{marksAnswer, marksRefusal};
 ghost use Rattle.block_generator.specs.Answers.{restAnswer, restRefusal, scaleAnswer, scaleRefusal, anchoredAnswer, anchoredRefusal};
 ghost use Rattle.block_gates.specs.Answers.{gatesAnswer, barsAnswer};
 ghost use Rattle.block_gates.specs.Promises.{GatesAnswered};
+ghost use Rattle.curve_finder.specs.Promises.{CurveAnswered};
 ghost use Rattle.c_results.specs.Promises.{Returned};
 ghost use Rattle.c_heights.specs.Results.{heightResult};
 ghost use Rattle.c_strip.specs.Results.{stripResult};
@@ -20,10 +21,12 @@ ghost use Rattle.c_generator.specs.Results.{restResult, scaleResult, anchoredRe
 ghost use Rattle.c_settings.specs.Results.{settingsResult, settingsAfter};
 ghost use Rattle.mark_numbers.specs.Results.{MarksNumbers};
 ghost use Rattle.gate_numbers.specs.Results.{GatesNumbers};
+ghost use Rattle.c_curve.specs.Results.{curveResult};
 ghost use Rattle.c_taps.specs.Results.{tapsOf, tapsAnswer};
 use block::HeightAnswer;
 use c_results::AnchoredResult;
 use c_results::CountResult;
+use c_results::CurveResult;
 use c_results::HeightResult;
 use c_results::RestResult;
 use c_results::ScaleResult;
@@ -125,6 +128,13 @@ pub extern "C" fn juvrada_bars(
     ensures { λ r. ⌜ Returned (λ a. GatesNumbers a (now (start .entry)) (now (start .exit)) (now (end .entry)) (now (end .exit)) r) (GatesAnswered barsAnswer (now (block .entry))) ⌝ }
 {
     c_gates::bars(block, start, end)
+}
+
+#[no_mangle]
+pub extern "C" fn juvrada_curve_for_end(sustain: u8, wanted: f32) -> CurveResult
+    ensures { λ r. ⌜ Returned (λ a. r ≡ curveResult a) (CurveAnswered sustain wanted) ⌝ }
+{
+    c_curve::curve_for_end(sustain, wanted)
 }
 
 #[no_mangle]

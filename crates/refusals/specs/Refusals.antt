@@ -3,7 +3,7 @@ use mathlib.Core.Bool.{cond, _&&_}
 use Prim.Native.Nat.{ℕ}
 use lib.Dec.{eqb, leb}
 use Rattle.refusals.specs.declared.Refusal.{Refusal}
-use Rattle.refusals.specs.declared.Refusal.the-variants.{Block, Code, Strip}
+use Rattle.refusals.specs.declared.Refusal.the-variants.{Block, Code, Strip, Level}
 use Rattle.refusals.specs.declared.Answer.{Answer}
 use Rattle.refusals.specs.declared.Answer.the-variants.{Accepted, Refused}
 
@@ -15,6 +15,7 @@ abbrev pub refusalNumber : Refusal → ℕ
 refusalNumber Block = 1
 refusalNumber Code = 2
 refusalNumber Strip = 3
+refusalNumber Level = 4
 
 abbrev pub answerRefusal : Answer → ℕ
 answerRefusal Accepted = accepted

@@ -2,11 +2,12 @@
 ghost use mathlib.Core.Path.{_≡_};
 ghost use Rattle.refusals.specs.Refusals.{refusalNumber, answerRefusal};
 
-// The block's length, the code, the strip's length.
+// The block's length, the code, the strip's length, a level that is none.
 pub enum Refusal {
     Block,
     Code,
     Strip,
+    Level,
 }
 
 // An answer with nothing beside it, or with arrays, which an enum does not hold.
@@ -22,6 +23,7 @@ pub fn refusal_number(r: Refusal) -> u32
         Refusal::Block => 1,
         Refusal::Code => 2,
         Refusal::Strip => 3,
+        Refusal::Level => 4,
     }
 }
 

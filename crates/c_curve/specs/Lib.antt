@@ -1,0 +1,2 @@
+-- A curve byte as numbers.
+pub mod Results

@@ -1,0 +1,4 @@
+-- The distance of two levels, exactly.
+pub mod Trim
+pub mod Distance
+pub mod Examples

@@ -1,0 +1,2 @@
+-- A curve byte for a wanted end.
+pub mod Promises

@@ -1,0 +1,2 @@
+-- What passes as a level.
+pub mod Levels

@@ -1,0 +1,2 @@
+-- What a level is.
+pub mod Level

@@ -1,0 +1,17 @@
+-- DECIMAL DIGITS AS CHARACTERS, the first of them the most significant: what a level is worked with. Definitions only.
+use mathlib.Core.Path.{_≡_}
+use mathlib.Core.List.{List}
+use Prim.Native.Nat.{ℕ, _+_, _*_, _^_, _<_, _≤_}
+use lib.ListN.{length, getD}
+use Rattle.numerals.specs.Spelled.{numberOf}
+
+-- Each character is a digit.
+abbrev pub AreDigits : List ℕ → Type 0
+AreDigits text = (i : ℕ) → i < length text → (48 ≤ getD text i 0) × (getD text i 0 ≤ 57)
+
+-- Twice the number of the digits before is that of the digits after, as many of them, with the carry, 0 or 1, in front.
+pub record Doubled (before after : List ℕ) (carry : ℕ) : Type 0 where
+  pub as-many : length after ≡ length before
+  pub digits : AreDigits after
+  pub carried : carry ≤ 1
+  pub twice : numberOf before * 2 ≡ carry * 10 ^ length before + numberOf after
