@@ -171,7 +171,7 @@ PATH=$stand/bin:$usual
 run "$door" build
 expect "build: status $got" [ "$got" -eq 0 ]
 expect "build ran: $(cat "$stand/log")" [ "$(cat "$stand/log")" = $'check\nstaticlib juvrada' ]
-expect "build says: $(head -n 1 err)" eval 'head -n 1 err | grep -q "^juvrada: build: everything, 11 steps" && grep -q "^juvrada: build: 11 of 11, " err'
+expect "build says: $(head -n 1 err)" eval 'head -n 1 err | grep -q "^juvrada: build: everything, 12 steps" && grep -q "^juvrada: build: 12 of 12, " err'
 : >"$stand/log"
 same sheet-example 0 "$door" sheet example
 same parameters-example 0 "$door" parameters example
