@@ -149,15 +149,17 @@ def bend(c):
     return exp2(div(F(c - 128), F(64)))
 
 
+def sustain_end(s, curve):
+    level, k = byte(s), mul(sub(byte(curve), HALF), F(2))
+    return mul(level, add(F(1), k)) if k < 0 else add(level, mul(sub(F(1), level), k))
+
+
 def envelope_settings(a, d, s, r, a_curve, d_curve, s_curve, r_curve):
     total = add(add(add(byte(a), byte(d)), HALF), byte(r))
     first = div(byte(a), total)
     second = add(first, div(byte(d), total))
     third = add(second, div(HALF, total))
-    sustain = byte(s)
-    k = mul(sub(byte(s_curve), HALF), F(2))
-    sustain_end = mul(sustain, add(F(1), k)) if k < 0 else add(sustain, mul(sub(F(1), sustain), k))
-    return first, second, third, sustain, sustain_end, bend(a_curve), bend(d_curve), bend(r_curve)
+    return first, second, third, byte(s), sustain_end(s, s_curve), bend(a_curve), bend(d_curve), bend(r_curve)
 
 
 def fade_end(b):
@@ -181,14 +183,14 @@ def bent(u, k):
     return u / (u + k * (1 - u))
 
 
-def envelope(t, first, second, third, sustain, sustain_end, attack_bend, decay_bend, release_bend):
+def envelope(t, first, second, third, sustain, held_end, attack_bend, decay_bend, release_bend):
     if t < first:
         return bent(divide(t, F(0), first), attack_bend)
     if t < second:
         return 1 + (sustain - 1) * bent(divide(t, first, second), decay_bend)
     if t < third:
-        return sustain + (sustain_end - sustain) * divide(t, second, third)
-    return sustain_end * (1 - bent(divide(t, third, F(1)), release_bend))
+        return sustain + (held_end - sustain) * divide(t, second, third)
+    return held_end * (1 - bent(divide(t, third, F(1)), release_bend))
 
 
 SAMPLES = [float_of(F(c)) for c in "0.72 0.18 0.95 0.41 0.08 0.63 0.31 0.86".split()]
@@ -397,4 +399,5 @@ def main():
     print_group("Random bytes and positions.", drawn, lambda code, b: [random.position() for _ in range(3)])
 
 
-main()
+if __name__ == "__main__":
+    main()
