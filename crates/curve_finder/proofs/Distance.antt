@@ -17,7 +17,7 @@ use Rattle.rounding.proofs.Operations.{Quanta}
 use Rattle.rounding.proofs.Quanta.{HasQuanta, InFormat, in-format, quanta-value, sum-quanta, nonnegative-quanta}
 use Rattle.curve.proofs.Positions.{Level, level-finite}
 use Rattle.curve_finder.specs.Promises.{Near, Tells}
-use Rattle.curve_finder.proofs.Trim.{trim-decides}
+use Rattle.curve_finder.proofs.LessPower.{less-power-decides}
 
 -- ---- fractions are in the order of their quanta
 module _ (U : ℕ) (a b : Fraction) (p n q m : ℕ) (h : HasQuanta U a p n) (k : HasQuanta U b q m) where
@@ -64,9 +64,13 @@ unfolding ofBits
 reach = refl
 
 -- ---- THE TEST IS EXACT
+-- x is above y by more than 1/512, as floats
+abbrev isAbove : Float → Float → Bool
+isAbove x y = lt y (x ⊖ bits 0x3b00_0000)
+
 module _ (x y : Float) (a : Counted x) (b : Counted y) where
-  decides : Decides (lt y (x ⊖ bits 0x3b00_0000)) (b .count + 2 ^ 140) (a .count)
-  decides = trim-decides binary32 x (bits 0x3b00_0000) y (a .format) (a .count) (b .count) 140 (a .is) (a .quanta) reach (b .quanta) (a .most)
+  decides : Decides (isAbove x y) (b .count + 2 ^ 140) (a .count)
+  decides = less-power-decides binary32 x (bits 0x3b00_0000) y (a .format) (a .count) (b .count) 140 (a .is) (a .quanta) reach (b .quanta) (a .most)
 
   raised : HasQuanta (2 ^ 149) (value y +ℚ ratio 1 512) (b .count + 2 ^ 140) 0
   raised = sum-quanta (2 ^ 149) (value y) (ratio 1 512) (b .count) 0 (2 ^ 140) 0 (quanta-value (2 ^ 149) y (b .count) 0 (b .quanta)) refl
@@ -74,12 +78,12 @@ module _ (x y : Float) (a : Counted x) (b : Counted y) where
   held : HasQuanta (2 ^ 149) (value x) (a .count) 0
   held = quanta-value (2 ^ 149) x (a .count) 0 (a .quanta)
 
-  at-most : T (not (lt y (x ⊖ bits 0x3b00_0000))) → value x ≤ℚ value y +ℚ ratio 1 512
+  at-most : T (not (isAbove x y)) → value x ≤ℚ value y +ℚ ratio 1 512
   at-most t =
       quanta-order (2 ^ 149) (value x) (value y +ℚ ratio 1 512) (a .count) 0 (b .count + 2 ^ 140) 0 held raised (lit< tt)
       (plus-zero (a .count) (b .count + 2 ^ 140) (decides .failed t))
 
-  more : T (lt y (x ⊖ bits 0x3b00_0000)) → value x ≤ℚ value y +ℚ ratio 1 512 → ⊥
+  more : T (isAbove x y) → value x ≤ℚ value y +ℚ ratio 1 512 → ⊥
   more t h =
       not-le-of-lt (decides .passed t)
       (less-zero (a .count) (b .count + 2 ^ 140)
@@ -99,13 +103,13 @@ module _ (x y : Float) (k : Level x) (l : Level y) where
   failed : {t : Bool} → t ≡ false → T (not t)
   failed e = subst (λ (t : Bool). T (not t)) (sym e) tt
 
-  pub first-above : lt y (x ⊖ bits 0x3b00_0000) ≡ true → Tells false (Near x y)
+  pub first-above : isAbove x y ≡ true → Tells false (Near x y)
   first-above e = record { passed = λ n. absurd (true≢false (sym n)); failed = λ _ h. more x y a b (passed e) (h .below) }
 
-  pub second-above : lt x (y ⊖ bits 0x3b00_0000) ≡ true → Tells false (Near x y)
+  pub second-above : isAbove y x ≡ true → Tells false (Near x y)
   second-above e = record { passed = λ n. absurd (true≢false (sym n)); failed = λ _ h. more y x b a (passed e) (h .above) }
 
-  pub neither-above : lt y (x ⊖ bits 0x3b00_0000) ≡ false → lt x (y ⊖ bits 0x3b00_0000) ≡ false → Tells true (Near x y)
+  pub neither-above : isAbove x y ≡ false → isAbove y x ≡ false → Tells true (Near x y)
   neither-above e f =
       record {
         passed =

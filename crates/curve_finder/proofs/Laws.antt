@@ -6,8 +6,8 @@ use native.Mathlib.Nat.{suc-ne-zero}
 use lib.Ieee.{Float}
 use Rattle.refusals.specs.declared.Refusal.{Refusal}
 use Rattle.refusals.specs.declared.Refusal.the-variants.{Block, Code, Strip, Level}
-use Rattle.refusals.specs.Refusals.{accepted, refusalNumber}
-use Rattle.level.specs.Level.{isLevel, checkLevel}
+use Rattle.refusals.specs.Refusals.{accepted, refusalNumber, checkLevel}
+use Rattle.level.specs.Level.{isLevel}
 use Rattle.curve_finder.specs.declared.CurveAnswer.{CurveAnswer}
 use Rattle.curve_finder.specs.declared.CurveAnswer.the-variants.{Found, NoneFound, Refused}
 use Rattle.curve_finder.specs.Promises.{EndsNear, CurvePromised, CurveAnswered}
@@ -19,7 +19,7 @@ numbered Code e = suc-ne-zero 1 e
 numbered Strip e = suc-ne-zero 2 e
 numbered Level e = suc-ne-zero 3 e
 
-checked : (w : Float) → isLevel w ≡ true → checkLevel w accepted ≡ accepted
+checked : (w : Float) → isLevel w ≡ true → checkLevel (isLevel w) accepted ≡ accepted
 unfolding checkLevel
 checked w l = rw l
 

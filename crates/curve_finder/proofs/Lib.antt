@@ -1,5 +1,5 @@
 -- The distance of two levels, exactly.
-pub mod Trim
+pub mod LessPower
 pub mod Distance
 pub mod Laws
 pub mod Examples

@@ -5,9 +5,9 @@ use Prim.Native.Nat.{ℕ, _+_, _<_}
 use lib.Ieee.{Float}
 use Rattle.exact.specs.Fraction.{ratio}
 use Rattle.exact.specs.Value.{value, Within}
-use Rattle.refusals.specs.Refusals.{accepted, refusalNumber}
+use Rattle.refusals.specs.Refusals.{accepted, refusalNumber, checkLevel}
 use Rattle.envelope_settings.specs.Formula.{sustainEndOf}
-use Rattle.level.specs.Level.{checkLevel}
+use Rattle.level.specs.Level.{isLevel}
 use Rattle.curve_finder.specs.declared.CurveAnswer.{CurveAnswer}
 use Rattle.curve_finder.specs.declared.CurveAnswer.the-variants.{Found, NoneFound, Refused}
 
@@ -30,6 +30,7 @@ pub record NoCurve (s : ℕ) (w : Float) (n : ℕ) : Type 0 where
   pub none : (c : ℕ) → c < 256 → EndsNear s w c → ⊥
   pub tried : n ≡ 256
 
+-- What is promised beside the number of a refusal, by the answer.
 abbrev pub CurvePromised : ℕ → Float → CurveAnswer → Type 0
 CurvePromised s w (Found c n) = FoundCurve s w c n
 CurvePromised s w (NoneFound n) = NoCurve s w n
@@ -43,10 +44,10 @@ curveRefusal (Refused why) = refusalNumber why
 
 -- The wanted level alone is checked: what is no level is refused, and nothing else is.
 pub record CurveAnswered (s : ℕ) (w : Float) (r : CurveAnswer) : Type 0 where
-  pub refusal : curveRefusal r ≡ checkLevel w accepted
+  pub refusal : curveRefusal r ≡ checkLevel (isLevel w) accepted
   pub promised : CurvePromised s w r
 
--- A test tells whether a claim holds.
+-- A test tells whether a claim holds: what the search goes by.
 pub record Tells (b : Bool) (Claim : Type 0) : Type 0 where
   pub passed : b ≡ true → Claim
   pub failed : b ≡ false → Claim → ⊥

@@ -20,7 +20,7 @@ const CURVES: u32 = 256;
 // How far an end may lie from the wanted level.
 const REACH: f32 = 1.0 / 512.0;
 
-// Whether two levels differ by at most REACH, as the numbers that they hold. A level less REACH loses nothing, or is below every level.
+// Whether two levels differ by at most REACH, as the numbers that they hold. A level less REACH loses nothing, or is not above 0.
 fn near(a: f32, b: f32) -> bool
     requires { ⌜ (isLevel a ≡ true) × (isLevel b ≡ true) ⌝ }
     ensures { λ r. ⌜ Tells r (Near a b) ⌝ }
@@ -34,6 +34,7 @@ fn near(a: f32, b: f32) -> bool
     true
 }
 
+// Whether a curve byte is an answer.
 fn ends_near(sustain: u8, curve: u8, wanted: f32) -> bool
     requires { ⌜ isLevel wanted ≡ true ⌝ }
     ensures { λ r. ⌜ Tells r (EndsNear sustain wanted curve) ⌝ }
@@ -41,6 +42,7 @@ fn ends_near(sustain: u8, curve: u8, wanted: f32) -> bool
     near(sustain_end(sustain, curve), wanted)
 }
 
+// A curve byte for a sustain byte and a wanted level.
 pub fn curve_for_end(sustain: u8, wanted: f32) -> CurveAnswer
     ensures { λ r. ⌜ CurveAnswered sustain wanted r ⌝ }
 {

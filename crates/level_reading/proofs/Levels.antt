@@ -18,7 +18,8 @@ use Rattle.decimal_reading.specs.declared.Number.the-variants.{Value, NotANumbe
 use Rattle.decimal_reading.specs.Reading.{readAfter}
 use Rattle.level_reading.specs.declared.LevelRead.{LevelRead}
 use Rattle.level_reading.specs.declared.LevelRead.the-variants.{Level, NotALevel}
-use Rattle.level_reading.specs.Reading.{allDigits, levelOver, levelOf}
+use Rattle.level_reading.specs.Digits.{allDigits}
+use Rattle.level_reading.specs.Reading.{levelOver, levelOf}
 use Rattle.level_reading.proofs.Digits.{ten-positive, no-more, number-below, digits-front, digits-each}
 use Rattle.level_reading.proofs.Digits.{read-all, read-other}
 

@@ -1,5 +1,5 @@
 -- A LEVEL READ FROM ITS DECIMALS: docs/SPECIFICATION.md, "A curve byte as text". The number that is written is taken exactly, and rounded once. Definitions only.
-use mathlib.Core.Bool.{Bool, true, false, cond}
+use mathlib.Core.Bool.{false, cond}
 use mathlib.Core.List.{List, [], _∷_}
 use Prim.Native.Nat.{ℕ, _^_}
 use lib.Dec.{ltb, leb, eqb}
@@ -10,11 +10,6 @@ use Rattle.decimal_reading.specs.declared.Number.the-variants.{Value, NotANumbe
 use Rattle.decimal_reading.specs.Reading.{readAfter}
 use Rattle.level_reading.specs.declared.LevelRead.{LevelRead}
 use Rattle.level_reading.specs.declared.LevelRead.the-variants.{Level, NotALevel}
-
--- Every character is a digit.
-unfoldable pub allDigits : List ℕ → Bool
-allDigits [] = true
-allDigits (c ∷ text) = cond (ltb c 48) false (cond (ltb 57 c) false (allDigits text))
 
 -- A number over 10 to the power n, rounded once to binary32. Above 1 it is no level.
 unfoldable pub levelOver : ℕ → Number → LevelRead

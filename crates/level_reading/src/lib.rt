@@ -9,8 +9,8 @@ ghost use lib.ListN.{length};
 ghost use lib.Ieee.{binary32, round, nearest};
 ghost use Rattle.numerals.specs.Spelled.{numberOf};
 ghost use Rattle.decimal_reading.specs.Reading.{readAfter};
-ghost use Rattle.level_reading.specs.Digits.{AreDigits, Doubled};
-ghost use Rattle.level_reading.specs.Reading.{allDigits, levelOver, levelOf};
+ghost use Rattle.level_reading.specs.Digits.{AreDigits, Doubled, allDigits};
+ghost use Rattle.level_reading.specs.Reading.{levelOver, levelOf};
 use float_bits::float_of;
 
 // What a text stands for.

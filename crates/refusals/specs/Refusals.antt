@@ -1,5 +1,5 @@
 -- THE REFUSALS: docs/SPECIFICATION.md, "What is offered to callers". Definitions only.
-use mathlib.Core.Bool.{cond, _&&_}
+use mathlib.Core.Bool.{Bool, cond, _&&_}
 use Prim.Native.Nat.{ℕ}
 use lib.Dec.{eqb, leb}
 use Rattle.refusals.specs.declared.Refusal.{Refusal}
@@ -33,3 +33,7 @@ checkCode code next = cond (leb code 13) next 2
 -- A strip, or captions, are of 2 to 4,096 samples.
 unfoldable pub checkLength : ℕ → ℕ → ℕ
 checkLength n next = cond (leb 2 n && leb n 4096) next 3
+
+-- A wanted level is one (`isLevel` of crate level tells).
+unfoldable pub checkLevel : Bool → ℕ → ℕ
+checkLevel isOne next = cond isOne next 4

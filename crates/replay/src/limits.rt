@@ -1,7 +1,10 @@
-// What is refused, and what is not: the numbers of blocks, codes and strips about each limit.
+// What is refused, and what is not: the numbers of blocks, codes, strips and levels about each limit.
 use crate::report;
 use block::HeightAnswer;
 use block_strip::StripAnswer;
+use curve_finder::CurveAnswer;
+use curve_finder::curve_for_end;
+use float_bits::float_of;
 use refusals::refusal_number;
 
 // The refusal's number, and 0 for none.
@@ -16,6 +19,14 @@ fn of_strip(answer: StripAnswer) -> u32 {
     match answer {
         StripAnswer::Filled(_) => 0,
         StripAnswer::Refused(why) => refusal_number(why),
+    }
+}
+
+fn of_curve(answer: CurveAnswer) -> u32 {
+    match answer {
+        CurveAnswer::Found { byte: _, tried: _ } => 0,
+        CurveAnswer::NoneFound { tried: _ } => 0,
+        CurveAnswer::Refused(why) => refusal_number(why),
     }
 }
 
@@ -54,7 +65,21 @@ fn print_strips() {
     print_strip(b"refusal, strip of 4097: ", &block, &mut strip, 4097);
 }
 
+// The refusal of a wanted level.
+fn print_level(label: &[u8], level: f32) {
+    report::print_count(label, of_curve(curve_for_end(0, level)));
+}
+
+fn print_levels() {
+    print_level(b"refusal, level just below 0: ", float_of(0x8000_0001));
+    print_level(b"refusal, level -0: ", -0.0);
+    print_level(b"refusal, level 1: ", 1.0);
+    print_level(b"refusal, level just above 1: ", float_of(0x3f80_0001));
+    print_level(b"refusal, level NaN: ", 0.0 / 0.0);
+}
+
 pub fn print_refusals() {
     print_blocks();
     print_strips();
+    print_levels();
 }

@@ -7,8 +7,8 @@ use lib.Ieee.{Float}
 use borrow.Author.Count.{below-more}
 use borrow.Author.Tests.{not-true, not-false}
 use borrow.Author.Needs.{needs}
-use Rattle.refusals.specs.Refusals.{accepted}
-use Rattle.level.specs.Level.{isLevel, checkLevel}
+use Rattle.refusals.specs.Refusals.{accepted, checkLevel}
+use Rattle.level.specs.Level.{isLevel}
 use Rattle.curve_finder.specs.Promises.{EndsNear}
 use Rattle.curve_finder.proofs.curve_for_end.Statement.{statement}
 use Rattle.curve_finder.proofs.curve_for_end.Tie as tie
@@ -20,11 +20,11 @@ abbrev μ-loop : tie.MeasureT-loop
 μ-loop sustain wanted tried₀ tried = 256 - tried
 
 -- a level is accepted, and what is none is refused
-no-level : (w : Float) → isLevel w ≡ false → 4 ≡ checkLevel w accepted
+no-level : (w : Float) → isLevel w ≡ false → 4 ≡ checkLevel (isLevel w) accepted
 unfolding checkLevel
 no-level w e = simp e
 
-a-level : (w : Float) → isLevel w ≡ true → accepted ≡ checkLevel w accepted
+a-level : (w : Float) → isLevel w ≡ true → accepted ≡ checkLevel (isLevel w) accepted
 unfolding checkLevel
 a-level w e = simp e
 

@@ -3,7 +3,7 @@ use mathlib.Core.Path.{_≡_, refl, _∙_}
 use Prim.Native.Nat.{_-_, _≤_}
 use borrow.Author.Needs.{needs}
 use lib.ListN.{length, drop}
-use Rattle.level_reading.specs.Reading.{allDigits}
+use Rattle.level_reading.specs.Digits.{allDigits}
 use Rattle.level_reading.proofs.Digits.{digits-more, digits-below, digits-above, digits-whole}
 use Rattle.level_reading.proofs.all_digits.Statement.{statement}
 use Rattle.level_reading.proofs.all_digits.Tie as tie

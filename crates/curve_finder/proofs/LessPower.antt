@@ -1,4 +1,4 @@
--- AN EXACT TEST IN ROUNDED ARITHMETIC. Where y is 2 ^ k quanta and x is from y to 2 ^ prec f times y, x ⊖ y loses nothing; where x is below y,
+-- A FLOAT LESS A POWER OF TWO, AN EXACT TEST. Where y is 2 ^ k quanta and x is from y to 2 ^ prec f times y, x ⊖ y loses nothing; where x is below y,
 -- x ⊖ y is not above 0. So z < x ⊖ y decides the exact z + y < x, for every z that is not negative. Over either format. Assumes nothing.
 use mathlib.Core.Path.{_≡_, refl, sym, ap, subst, _∙_}
 use mathlib.Core.Bool.{Bool, true, false, not, cond}
@@ -20,9 +20,9 @@ use Rattle.rounding.proofs.Comparison.{lt-quanta, nlt-quanta}
 use Rattle.rounding.proofs.Sterbenz.{nonnegative-exact, finer-units, power-split}
 
 -- ---- x - y is exact
-pub trim-exact : (f : Format) (x y : Float) (w : InFormat f x) (P k : ℕ) → P ≡ w .significand * 2 ^ w .shift → Quanta (2 ^ low f) x P 0 → Quanta (2 ^ low f) y (2 ^ k) 0
+pub less-power-exact : (f : Format) (x y : Float) (w : InFormat f x) (P k : ℕ) → P ≡ w .significand * 2 ^ w .shift → Quanta (2 ^ low f) x P 0 → Quanta (2 ^ low f) y (2 ^ k) 0
     → 2 ^ k ≤ P → P < 2 ^ prec f * 2 ^ k → Quanta (2 ^ low f) (sub f x y) (P + 0) (0 + 2 ^ k)
-trim-exact f x y w P k i h g l r = go (leb j k) (leb→le j k) (nleb→lt j k)
+less-power-exact f x y w P k i h g l r = go (leb j k) (leb→le j k) (nleb→lt j k)
   where
     j : ℕ
     j = w .shift
@@ -75,8 +75,8 @@ not-above f z Q a c h t = go (ltb (q * 2 ^ k) (overflow f)) (subst (λ (y : Floa
     go false t = bottom (2 ^ low f) z Q h t
 
 -- x ⊖ y, where x is below y
-trim-below : (f : Format) (x y z : Float) (P R Q : ℕ) → Quanta (2 ^ low f) x P 0 → Quanta (2 ^ low f) y R 0 → Quanta (2 ^ low f) z Q 0 → P < R → T (lt z (sub f x y)) → ⊥
-trim-below f x y z P R Q h g o l t =
+less-power-below : (f : Format) (x y z : Float) (P R Q : ℕ) → Quanta (2 ^ low f) x P 0 → Quanta (2 ^ low f) y R 0 → Quanta (2 ^ low f) z Q 0 → P < R → T (lt z (sub f x y)) → ⊥
+less-power-below f x y z P R Q h g o l t =
     let w = sub-is f x y P 0 R 0 h g in
     go (w .rounded .sign) (w .rounded .size) (w .over) (w .over-pos) (w .rounded .val) (subst (λ (u : Float). T (lt z u)) (w .rounded .is) t)
   where
@@ -88,9 +88,9 @@ trim-below f x y z P R Q h g o l t =
     go true a c C e t = not-above f z Q a c o t
 
 -- ---- THE TEST: z < x ⊖ y decides z + y < x
-pub trim-decides : (f : Format) (x y z : Float) (w : InFormat f x) (P Q k : ℕ) → P ≡ w .significand * 2 ^ w .shift → Quanta (2 ^ low f) x P 0 → Quanta (2 ^ low f) y (2 ^ k) 0
+pub less-power-decides : (f : Format) (x y z : Float) (w : InFormat f x) (P Q k : ℕ) → P ≡ w .significand * 2 ^ w .shift → Quanta (2 ^ low f) x P 0 → Quanta (2 ^ low f) y (2 ^ k) 0
     → Quanta (2 ^ low f) z Q 0 → P < 2 ^ prec f * 2 ^ k → Decides (lt z (sub f x y)) (Q + 2 ^ k) P
-trim-decides f x y z w P Q k i h g o r = go (leb (2 ^ k) P) (leb→le (2 ^ k) P) (nleb→lt (2 ^ k) P)
+less-power-decides f x y z w P Q k i h g o r = go (leb (2 ^ k) P) (leb→le (2 ^ k) P) (nleb→lt (2 ^ k) P)
   where
     R : ℕ
     R = 2 ^ k
@@ -109,9 +109,9 @@ trim-decides f x y z w P Q k i h g o r = go (leb (2 ^ k) P) (leb→le (2 ^ k) P)
 
     go : (t : Bool) → (T t → R ≤ P) → (T (not t) → P < R) → Decides (lt z (sub f x y)) (Q + R) P
     go true s t =
-        let e = trim-exact f x y w P k i h g (s tt) r in
+        let e = less-power-exact f x y w P k i h g (s tt) r in
         record {
           passed = λ b. more Q R P (lt-quanta U z (sub f x y) Q 0 (P + 0) (0 + R) (pow-pos (low f)) o e b);
           failed = λ b. less Q R P (nlt-quanta U z (sub f x y) Q 0 (P + 0) (0 + R) o e b);
         }
-    go false s t = record { passed = λ b. absurd (trim-below f x y z P R Q h g o (t tt) b); failed = λ b. under Q R P (t tt) }
+    go false s t = record { passed = λ b. absurd (less-power-below f x y z P R Q h g o (t tt) b); failed = λ b. under Q R P (t tt) }
