@@ -162,7 +162,7 @@ static void curves(void) {
     /* The difference of byte 14 is 1/512 as an f32, and more as a number. */
     r = juvrada_curve_for_end(1, bits(0x3b1c3855));
     EXPECT(r.refusal == JUVRADA_ACCEPTED && r.found == 1 && r.byte > 14 && r.tried == r.byte + 1);
-    /* Sustain 0 rises by 2/255 from byte to byte: a level midway is farther than 1/512 from both. */
+    /* From byte 128 on the end of sustain 0 rises by 2/255 a byte: a level midway is farther than 1/512 from both. */
     r = juvrada_curve_for_end(0, 2.0f / 255.0f);
     EXPECT(r.refusal == JUVRADA_ACCEPTED && r.found == 0 && r.byte == 0 && r.tried == 256);
     static const uint32_t refused[] = {0x80000001, 0xbf800000, 0x3f800001, 0x7f800000, 0xff800000, 0x7fc00000, 0xffc00001};
