@@ -1,7 +1,7 @@
 -- ENDS THAT ARE NEAR A LEVEL, AND NOT. A row is a sustain byte, a curve byte, the bits of a wanted level, and whether the end is near it, by Python's fractions.
 -- The first is farther by 2 ^ -33, and the difference made in f32 is 1/512; the fifth is just 1/512 away, and the sixth has the next f32. Assumes nothing.
 use mathlib.Core.Path.{_≡_, refl, sym, subst}
-use mathlib.Core.Bool.{Bool, true, false, not, _&&_, Bool·beq}
+use mathlib.Core.Bool.{Bool, true, false, _&&_, Bool·beq}
 use mathlib.Core.List.{List, [], _∷_}
 use Prim.Native.Nat.{ℕ}
 use lib.Dec.{T, lit<}

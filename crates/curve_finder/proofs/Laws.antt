@@ -1,5 +1,5 @@
 -- NONE IS SAID EXACTLY WHERE THERE IS NONE: of a level, and by the promise alone. Assumes nothing.
-use mathlib.Core.Path.{_≡_, sym, ap, subst, _∙_}
+use mathlib.Core.Path.{_≡_, ap, subst, _∙_}
 use mathlib.Core.Bool.{true}
 use Prim.Native.Nat.{ℕ, _<_}
 use native.Mathlib.Nat.{suc-ne-zero}

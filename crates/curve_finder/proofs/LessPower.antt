@@ -1,23 +1,22 @@
 -- A FLOAT LESS A POWER OF TWO, AN EXACT TEST. Where y is 2 ^ k quanta and x is from y to 2 ^ prec f times y, x ⊖ y loses nothing; where x is below y,
 -- x ⊖ y is not above 0. So z < x ⊖ y decides the exact z + y < x, for every z that is not negative. Over either format. Assumes nothing.
-use mathlib.Core.Path.{_≡_, refl, sym, ap, subst, _∙_}
+use mathlib.Core.Path.{_≡_, sym, subst, _∙_}
 use mathlib.Core.Bool.{Bool, true, false, not, cond}
 use Prim.Native.Nat.{ℕ, suc, _+_, _-_, _*_, _^_, _≤_, _<_}
-use native.Mathlib.Nat.{le-of-lt, le-of-mul-le-mul-right, lt-of-mul-lt-mul-right, mul-le-mul-right, mul-lt-mul-of-pos-right}
+use native.Mathlib.Nat.{le-of-lt, lt-of-mul-lt-mul-right, mul-lt-mul-of-pos-right}
 use native.Mathlib.Omega.{arith}
 use lib.Dec.{T, ltb, leb, leb→le, nleb→lt}
 use lib.Pow.{pow-pos}
 use lib.Ieee.{Float, nan, inf, fin, Format, prec, low, odd, units, round, sub, lt}
 use lib.Ieee.Fits.{round-is}
-use lib.Ieee.Exact.{HasValue, odd-sign}
+use lib.Ieee.Exact.{odd-sign}
 use lib.Ieee.Order.{drop, kept}
 use lib.Ieee.Scale.{overflow}
-use Rattle.exact.proofs.Close.{Close}
 use Rattle.exact.proofs.Order.{Decides}
 use Rattle.rounding.proofs.Operations.{Signed, Quanta, of-value, sub-is}
 use Rattle.rounding.proofs.Quanta.{InFormat}
 use Rattle.rounding.proofs.Comparison.{lt-quanta, nlt-quanta}
-use Rattle.rounding.proofs.Sterbenz.{nonnegative-exact, finer-units, power-split}
+use Rattle.rounding.proofs.Sterbenz.{smaller-exact, finer-units, power-split}
 
 -- ---- x - y is exact
 pub less-power-exact : (f : Format) (x y : Float) (w : InFormat f x) (P k : ℕ) → P ≡ w .significand * 2 ^ w .shift → Quanta (2 ^ low f) x P 0 → Quanta (2 ^ low f) y (2 ^ k) 0
@@ -30,9 +29,6 @@ less-power-exact f x y w P k i h g l r = go (leb j k) (leb→le j k) (nleb→lt 
     a : ℕ
     a = w .significand
 
-    close : (a b u P Q : ℕ) → 0 < u → P ≡ a * u → Q ≡ b * u → Q ≤ P → Close a b a
-    close a b u P Q U i k l = let t : b ≤ a = le-of-mul-le-mul-right (omega arith) U in omega arith
-
     once : (u : ℕ) → u ≡ 1 * u
     once u = omega arith
 
@@ -43,11 +39,11 @@ less-power-exact f x y w P k i h g l r = go (leb j k) (leb→le j k) (nleb→lt 
     go true s t =
         let b = 2 ^ (k - j) in
         let e : 2 ^ k ≡ b * 2 ^ j = power-split j k (s tt) in
-        nonnegative-exact f x y a b P (2 ^ k) j a i e h g (close a b (2 ^ j) P (2 ^ k) (pow-pos j) i e l) (w .digits) (w .range)
+        smaller-exact f x y a b P (2 ^ k) j i e h g l (w .digits) (w .range)
     go false s t =
         let A = a * 2 ^ (j - k) in
         let e : P ≡ A * 2 ^ k = i ∙ finer-units a k j (le-of-lt (t tt)) in
-        nonnegative-exact f x y A 1 P (2 ^ k) k A e (once (2 ^ k)) h g (close A 1 (2 ^ k) P (2 ^ k) (pow-pos k) e (once (2 ^ k)) l) (few A (2 ^ k) P (2 ^ prec f) e r)
+        smaller-exact f x y A 1 P (2 ^ k) k e (once (2 ^ k)) h g l (few A (2 ^ k) P (2 ^ prec f) e r)
         (subst (λ (z : ℕ). z < overflow f) (sym i ∙ e) (w .range))
 
 -- ---- what is rounded from below 0 is not above a number that is not negative

@@ -20,7 +20,7 @@ use Rattle.exact.proofs.Order.{≤ℚ-parts, equal⁺, equal⁻}
 use Rattle.rounding.proofs.Operations.{Quanta}
 use Rattle.rounding.proofs.Quanta.{HasQuanta, InFormat, in-format, quanta-value, value-quanta, quanta-of-equal, equal-quanta, nonnegative-quanta}
 use Rattle.exact.proofs.Defined.{value-defined}
-use Rattle.rounding.proofs.Sterbenz.{multiples-exact, nonnegative-exact, difference-exact, power-split, finer-units}
+use Rattle.rounding.proofs.Sterbenz.{multiples-exact, nonnegative-exact, smaller-exact, difference-exact, power-split, finer-units}
 
 -- ---- of x that is not negative
 -- the floor z of a number of g quanta
@@ -59,9 +59,6 @@ floor-exact f x y w P z i l r h g = go (leb (w .shift) (low f)) (leb→le (w .sh
     j : ℕ
     j = w .shift
 
-    close : (c B u P Q : ℕ) → 0 < u → P ≡ c * u → Q ≡ B * u → Q ≤ P → Close c B c
-    close c B u P Q U i k l = let t : B ≤ c = le-of-mul-le-mul-right (omega arith) U in omega arith
-
     same : (A z U P : ℕ) → 0 < U → P ≡ A * U → z * U ≤ P → P < z * U + U → Close A z 0
     same A z U P Q e l r =
         let a : z ≤ A = le-of-mul-le-mul-right (omega arith) Q in
@@ -72,7 +69,7 @@ floor-exact f x y w P z i l r h g = go (leb (w .shift) (low f)) (leb→le (w .sh
     go true s t =
         let B = z * 2 ^ (low f - j) in
         let e : z * 2 ^ low f ≡ B * 2 ^ j = finer-units z j (low f) (s tt) in
-        nonnegative-exact f x y c B P (z * 2 ^ low f) j c i e h g (close c B (2 ^ j) P (z * 2 ^ low f) (pow-pos j) i e l) (w .digits) (w .range)
+        smaller-exact f x y c B P (z * 2 ^ low f) j i e h g l (w .digits) (w .range)
     go false s t =
         let A = c * 2 ^ (j - low f) in
         let e : P ≡ A * 2 ^ low f = i ∙ finer-units c (low f) j (le-of-lt (t tt)) in

@@ -95,6 +95,12 @@ nonnegative-exact f x y a b P Q j c i k h g e l r =
     two : (b u Q : ℕ) → Q ≡ b * u → 0 * u + b * u ≡ 0 + Q
     two b u Q e = omega arith
 
+-- and where the second is no larger: the difference then has no more digits than the first
+pub smaller-exact : (f : Format) (x y : Float) (a b P Q j : ℕ) → P ≡ a * 2 ^ j → Q ≡ b * 2 ^ j → Quanta (2 ^ low f) x P 0 → Quanta (2 ^ low f) y Q 0
+    → Q ≤ P → a < 2 ^ prec f → a * 2 ^ j < overflow f → Quanta (2 ^ low f) (sub f x y) (P + 0) (0 + Q)
+smaller-exact f x y a b P Q j i k h g l =
+    let t : b ≤ a = le-of-mul-le-mul-right (omega arith) (pow-pos j) in nonnegative-exact f x y a b P Q j a i k h g (omega arith)
+
 -- 2 ^ j quanta, in units of 2 ^ i of them
 pub power-split : (i j : ℕ) → i ≤ j → 2 ^ j ≡ 2 ^ (j - i) * 2 ^ i
 power-split i j h = ap (λ (z : ℕ). 2 ^ z) (back i j h) ∙ pow-add 2 (j - i) i
