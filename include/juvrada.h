@@ -157,7 +157,8 @@ juvrada_count_result juvrada_settings(const uint8_t *block, size_t block_len, ui
 
 /*
  * The caption of each sample of a strip of out_len: of an envelope the segment that the sample lies in, that is, the last whose mark is at or
- * before it, sample 0 being always attack; JUVRADA_NO_CAPTION of the other codes. Returns the refusal.
+ * before it; JUVRADA_NO_CAPTION of the other codes. So sample 0 is attack if the attack byte isn't 0, else decay if the decay byte isn't 0, else
+ * sustain. Returns the refusal.
  */
 uint32_t juvrada_captions(const uint8_t *block, size_t block_len, uint32_t code, uint8_t *out, size_t out_len);
 

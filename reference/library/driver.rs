@@ -64,7 +64,7 @@ impl<T: Entry> Lent<T> {
 
 // ---- counts
 
-const COUNTED: usize = 16;
+const COUNTED: usize = 17;
 
 /// How many of each were compared.
 #[derive(Clone, Copy)]
@@ -75,6 +75,7 @@ enum Counted {
     Strips,
     Captions,
     Captioned,
+    Changed,
     Settings,
     Marks,
     Others,
@@ -291,12 +292,9 @@ impl Work<'_> {
     fn captions(&mut self, code: usize, program: &Program, generator: &Generator, n: usize) {
         let mut lent = Lent::new(n);
         let refusal = unsafe { juvrada::juvrada_captions(program.0.as_ptr(), BLOCK, code as u32, lent.pointer(), n) };
-        let expected = |i: usize| {
+        let by_marks = |i: usize| {
             if code > 2 {
                 return 255;
-            }
-            if i == 0 {
-                return 0;
             }
             let t = sample_position(i, n);
             let before = generator.marks().filter(|mark| mark.at() <= t);
@@ -305,13 +303,22 @@ impl Work<'_> {
                 .last()
                 .expect("the attack starts at 0")
         };
+        // The rule before had sample 0 of an envelope as the attack. What has changed since is that sample where the attack's byte is 0.
+        let former = |i: usize| if code < 3 && i == 0 { 0 } else { by_marks(i) };
+        let by_list = |i: usize| match READ[code] {
+            &[attack, decay, ..] if code < 3 && i == 0 && program.0[attack] == 0 => 1 + u8::from(program.0[decay] == 0),
+            _ => former(i),
+        };
+        let mut changed = 0;
         for (i, &caption) in lent.first(n).iter().enumerate() {
-            let expected = expected(i);
-            if caption != expected {
-                self.differ(|| {
-                    let input = shown(code, program);
-                    format!("caption {i} of {n} of {input}: {caption}, expected {expected}")
-                });
+            changed += usize::from(caption != former(i));
+            for (what, expected) in [("its marks", by_marks(i)), ("the list of changes", by_list(i))] {
+                if caption != expected {
+                    self.differ(|| {
+                        let input = shown(code, program);
+                        format!("caption {i} of {n} of {input}: {caption}, expected {expected} by {what}")
+                    });
+                }
             }
         }
         if refusal != 0 || !lent.kept_from(n) {
@@ -319,6 +326,7 @@ impl Work<'_> {
         }
         self.count(Counted::Captions, 1);
         self.count(Counted::Captioned, n);
+        self.count(Counted::Changed, changed);
     }
 
     fn gates(&mut self, program: &Program) {
@@ -625,6 +633,18 @@ fn lengths(work: &mut Work, code: usize, slew: Option<u8>, shape: u8) {
     }
 }
 
+/// Captions of an envelope with this attack and every decay, with no release and with one, at telling lengths.
+fn starts(work: &mut Work, code: usize, attack: u8) {
+    for decay in 0..=255 {
+        for release in [0, work.random.byte()] {
+            let program = block(&mut work.random, &READ[code][..4], &[attack, decay, 200, release]);
+            for n in [MIN_STRIP, 65, 501] {
+                work.captions(code, &program, &build(code, &program), n);
+            }
+        }
+    }
+}
+
 /// Positions from 0 to 1 at an even distance of bits, 8 blocks in turn. LFOs have slew 0.
 fn sweep(work: &mut Work, code: usize) {
     const STRIDE: usize = 1021;
@@ -766,6 +786,11 @@ fn jobs() -> Vec<Job> {
     for sustain in 0..=255 {
         all.push(Box::new(move |work| wanted(work, sustain)));
     }
+    for code in [0, 1, 2] {
+        for attack in [0, 1, 255] {
+            all.push(Box::new(move |work| starts(work, code, attack)));
+        }
+    }
     all
 }
 
@@ -821,15 +846,16 @@ pub fn run() {
         taken.store(jobs.len(), Relaxed);
     });
     let of = |what: Counted| grouped(shared.counts[what as usize].load(Relaxed));
-    use Counted::{Bars, Captioned, Captions, Curves, Gates, Heights, Marks, NoCurves, Others, Refusals, Samples};
+    use Counted::{Bars, Captioned, Captions, Changed, Curves, Gates, Heights, Marks, NoCurves, Others, Refusals, Samples};
     use Counted::{Settings, Slewed, Strips, TapHeights, TapMarks};
     println!("heights {}, of them slewed {}", of(Heights), of(Slewed));
     println!(
-        "samples {} of {} strips, captions {} of {}",
+        "samples {} of {} strips, captions {} of {}, changed {}",
         of(Samples),
         of(Strips),
         of(Captioned),
-        of(Captions)
+        of(Captions),
+        of(Changed)
     );
     println!(
         "settings {}, marks {}, rest, scale, anchored {}",

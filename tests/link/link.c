@@ -114,12 +114,28 @@ static void settings(void) {
     EXPECT(r.refusal == JUVRADA_ACCEPTED && r.count == 1 && out[0] == 0.0f && out[2] == 1.0f);
 }
 
-static void captions(void) {
+/* The captions of the VCF envelope with these attack and decay bytes, at its start, its middle and its end. */
+static void captioned(uint8_t attack, uint8_t decay, uint8_t start, uint8_t middle) {
     uint8_t out[4] = {9, 9, 9, 9};
+    block[62] = attack;
+    block[63] = decay;
     EXPECT(juvrada_captions(block, sizeof block, 1, out, 3) == JUVRADA_ACCEPTED);
-    EXPECT(out[0] == JUVRADA_MARK_ATTACK && out[1] == JUVRADA_MARK_SUSTAIN && out[2] == JUVRADA_MARK_RELEASE && out[3] == 9);
+    EXPECT(out[0] == start && out[1] == middle && out[2] == JUVRADA_MARK_RELEASE && out[3] == 9);
+    block[62] = block[63] = 0;
+}
+
+static void captions(void) {
+    captioned(0, 0, JUVRADA_MARK_SUSTAIN, JUVRADA_MARK_SUSTAIN);
+    captioned(0, 1, JUVRADA_MARK_DECAY, JUVRADA_MARK_SUSTAIN);
+    captioned(0, 255, JUVRADA_MARK_DECAY, JUVRADA_MARK_DECAY);
+    captioned(1, 0, JUVRADA_MARK_ATTACK, JUVRADA_MARK_SUSTAIN);
+    captioned(255, 255, JUVRADA_MARK_ATTACK, JUVRADA_MARK_DECAY);
+    uint8_t out[4] = {9, 9, 9, 9};
     EXPECT(juvrada_captions(block, sizeof block, 3, out, 2) == JUVRADA_ACCEPTED);
-    EXPECT(out[0] == JUVRADA_NO_CAPTION && out[1] == JUVRADA_NO_CAPTION && out[2] == JUVRADA_MARK_RELEASE);
+    EXPECT(out[0] == JUVRADA_NO_CAPTION && out[1] == JUVRADA_NO_CAPTION && out[2] == 9);
+    EXPECT(juvrada_captions(block, 241, 14, out + 2, 1) == JUVRADA_BAD_BLOCK && out[2] == 9);
+    EXPECT(juvrada_captions(block, sizeof block, 256, out + 2, 1) == JUVRADA_BAD_CODE && out[2] == 9);
+    EXPECT(juvrada_captions(block, sizeof block, 1, out + 2, 1) == JUVRADA_BAD_STRIP && out[2] == 9);
     EXPECT(juvrada_captions(block, sizeof block, 1, out, 0) == JUVRADA_BAD_STRIP && out[0] == JUVRADA_NO_CAPTION);
 }
 

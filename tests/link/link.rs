@@ -64,9 +64,16 @@ fn main() {
     assert_eq!((r.refusal, r.count), (ACCEPTED, 4));
     assert_eq!(settings, [6.0, 0.0, 3.0, 1.0, 9.0, 9.0, 9.0, 9.0]);
 
-    let mut captions = [9; 4];
-    let refusal = unsafe { juvrada_captions(block.as_ptr(), BLOCK, 0, captions.as_mut_ptr(), 3) };
-    assert_eq!((refusal, captions), (ACCEPTED, [MARK_ATTACK, MARK_SUSTAIN, MARK_RELEASE, 9]));
+    for (attack, decay, first) in [(0, 0, MARK_SUSTAIN), (0, 1, MARK_DECAY), (1, 0, MARK_ATTACK)] {
+        block[53] = attack;
+        block[54] = decay;
+        let mut captions = [9; 4];
+        let refusal = unsafe { juvrada_captions(block.as_ptr(), BLOCK, 0, captions.as_mut_ptr(), 3) };
+        assert_eq!((refusal, captions), (ACCEPTED, [first, MARK_SUSTAIN, MARK_RELEASE, 9]));
+        let refusal = unsafe { juvrada_captions(block.as_ptr(), BLOCK, 14, captions.as_mut_ptr(), 3) };
+        assert_eq!((refusal, captions), (BAD_CODE, [first, MARK_SUSTAIN, MARK_RELEASE, 9]));
+    }
+    block[53] = 0;
 
     for find in [juvrada_gates, juvrada_bars] {
         let (mut start, mut end) = ([9.0; GATES], [9.0; GATES]);

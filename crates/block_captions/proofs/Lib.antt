@@ -1,2 +1,2 @@
--- What is refused, and what is promised of captions follows from their equations.
-pub mod Refused
+-- What is promised of captions follows from their equations.
+pub mod Answered

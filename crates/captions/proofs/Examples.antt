@@ -25,16 +25,20 @@ captioned r = same (captionsOf (AnEnvelope (envelopeOf (r .0) (r .1) 200 (r .2) 
 
 rows : List (ℕ × ℕ × ℕ × List ℕ)
 rows =
-    -- times of 0: at sample 0 the attack wins over the sustain, which starts there too
-    (0, 0, 0, 0 ∷ 2 ∷ 2 ∷ 2 ∷ 3 ∷ [])
+    -- times of 0: attack, decay and sustain start at sample 0, and the last of them has it
+    (0, 0, 0, 2 ∷ 2 ∷ 2 ∷ 2 ∷ 3 ∷ [])
     ∷ (255, 255, 255, 0 ∷ 0 ∷ 1 ∷ 1 ∷ 2 ∷ 3 ∷ 3 ∷ 3 ∷ [])
     ∷ (128, 64, 32, 0 ∷ 0 ∷ 0 ∷ 1 ∷ 1 ∷ 2 ∷ 2 ∷ 2 ∷ 3 ∷ [])
     -- samples that lie on a mark: 2/3 on two, then 1 on the last; 2/5 and 3/5
     ∷ (255, 0, 0, 0 ∷ 0 ∷ 2 ∷ 3 ∷ [])
     ∷ (127, 128, 255, 0 ∷ 1 ∷ 2 ∷ 3 ∷ 3 ∷ 3 ∷ [])
-    ∷ (0, 255, 10, 0 ∷ 1 ∷ 1 ∷ 1 ∷ 2 ∷ 2 ∷ 3 ∷ [])
+    -- no attack: the decay has sample 0, however short it is
+    ∷ (0, 255, 10, 1 ∷ 1 ∷ 1 ∷ 1 ∷ 2 ∷ 2 ∷ 3 ∷ [])
+    ∷ (0, 1, 255, 1 ∷ 2 ∷ 3 ∷ 3 ∷ [])
+    -- no decay: the attack has sample 0, however short it is
+    ∷ (1, 0, 0, 0 ∷ 2 ∷ 3 ∷ [])
     -- the release starts past 1, by rounding: the last sample is still the sustain
-    ∷ (0, 144, 0, 0 ∷ 1 ∷ 2 ∷ [])
+    ∷ (0, 144, 0, 1 ∷ 1 ∷ 2 ∷ [])
     -- a slice that is too short stays as it was
     ∷ (0, 0, 0, 9 ∷ [])
     ∷ []

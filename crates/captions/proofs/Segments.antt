@@ -4,7 +4,6 @@ use mathlib.Core.Bool.{Bool, true, false, cond}
 use mathlib.Core.List.{List}
 use Prim.Native.Nat.{ℕ, _+_, _-_}
 use native.Mathlib.Omega.{arith}
-use borrow.Author.Tests.{eq-eqb, ne-eqb}
 use lib.Ieee.{Float, le}
 use Rattle.exact.specs.Binary32.{zero₃₂}
 use Rattle.settings.specs.declared.Envelope.{Envelope}
@@ -21,13 +20,6 @@ by-ends e p = ap (λ (k : ℕ). cond (le (e .third) p) 3 (cond (le (e .second) p
     either true = refl
     either false = refl
 
-module _ (ms : List Mark) (i last : ℕ) where
-  pub caption-first : i ≡ 0 → 0 ≡ captionOf ms (last + 1) i
-  unfolding captionOf
-  caption-first h = simp (eq-eqb i 0 h)
-
-  pub caption-later : (p : Float) {r : ℕ} → (i ≡ 0 → ⊥) → p ≡ partOf i last → r ≡ lastSegment ms p → r ≡ captionOf ms (last + 1) i
-  unfolding captionOf samplePosition
-  caption-later p h a b =
-      let n : last + 1 - 1 ≡ last = omega arith in
-      b ∙ simp (ne-eqb i 0 h, n, a)
+pub by-position : (ms : List Mark) (i last : ℕ) (p : Float) {r : ℕ} → p ≡ partOf i last → r ≡ lastSegment ms p → r ≡ captionOf ms (last + 1) i
+unfolding captionOf samplePosition
+by-position ms i last p a b = let n : last + 1 - 1 ≡ last = omega arith in b ∙ simp (n, a)

@@ -2,7 +2,6 @@
 use mathlib.Core.Bool.{cond}
 use mathlib.Core.List.{List, [], _∷_}
 use Prim.Native.Nat.{ℕ}
-use lib.Dec.{eqb}
 use lib.ListN.{length}
 use lib.Ieee.{Float, le}
 use Rattle.generator.specs.declared.Shape.{Shape}
@@ -35,22 +34,25 @@ segmentFrom k (m ∷ ms) p = segmentFrom (cond (le (m .at) p) (startedBy (m .kin
 unfoldable pub lastSegment : List Mark → Float → ℕ
 lastSegment ms p = segmentFrom (segmentNumber Attack) ms p
 
--- C2, which wins over C1: sample 0 is the attack. Any other of n samples goes by C1.
+-- The caption of sample i of n, by its position.
 unfoldable pub captionOf : List Mark → ℕ → ℕ → ℕ
-captionOf ms n i = cond (eqb i 0) (segmentNumber Attack) (lastSegment ms (samplePosition n i))
+captionOf ms n i = lastSegment ms (samplePosition n i)
 
 -- The caption of a sample that has none.
 abbrev pub noCaption : ℕ
 noCaption = 255
 
--- Sample i of n of a shape: an envelope's by its marks; no other shape has captions, a fade's marks notwithstanding.
+-- Sample i of n of a shape: an envelope's by a rule for its marks; no other shape has captions, a fade's marks notwithstanding.
+abbrev pub captionBy : (List Mark → ℕ → ℕ → ℕ) → Shape → ℕ → ℕ → ℕ
+captionBy rule (AnEnvelope e) n i = rule (envelopeMarks e) n i
+captionBy rule (AFade f) n i = noCaption
+captionBy rule (AnLfo l) n i = noCaption
+captionBy rule (AFilter f) n i = noCaption
+captionBy rule (AnOscillator o) n i = noCaption
+captionBy rule (ANoise k) n i = noCaption
+
 abbrev pub captionAt : Shape → ℕ → ℕ → ℕ
-captionAt (AnEnvelope e) n i = captionOf (envelopeMarks e) n i
-captionAt (AFade f) n i = noCaption
-captionAt (AnLfo l) n i = noCaption
-captionAt (AFilter f) n i = noCaption
-captionAt (AnOscillator o) n i = noCaption
-captionAt (ANoise k) n i = noCaption
+captionAt s n i = captionBy captionOf s n i
 
 -- What is answered for a slice of n captions: the lengths are those of a strip.
 unfoldable pub answerOf : ℕ → Captioned

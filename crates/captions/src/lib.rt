@@ -20,7 +20,7 @@ const SUSTAIN: u8 = 2;
 
 const RELEASE: u8 = 3;
 
-const NO_CAPTION: u8 = 255;
+pub const NO_CAPTION: u8 = 255;
 
 pub enum Captioned {
     Written,
@@ -43,13 +43,10 @@ fn segment_at(e: Envelope, p: f32) -> u8
     ATTACK
 }
 
-// Sample 0 is the attack; any other, of those from 0 to `last`, goes by its position.
+// Sample i, of those from 0 to `last`, goes by its position.
 fn caption_of(e: Envelope, i: u16, last: u16) -> u8
     ensures { λ r. ⌜ r ≡ captionOf (envelopeMarks e) (last + 1) i ⌝ }
 {
-    if i == 0 {
-        return ATTACK;
-    }
     segment_at(e, sample_position(i, last))
 }
 

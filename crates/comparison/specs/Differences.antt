@@ -16,7 +16,7 @@ use Rattle.codes.specs.declared.CodeRead.the-variants.{Known, Above}
 use Rattle.codes.specs.Codes.{codeNumber, codeOf}
 use Rattle.code_bytes.specs.Bytes.{bytesOf, byteAt, gatesByte, blockLength}
 use Rattle.code_shapes.specs.Shapes.{shapeOf}
-use Rattle.rows.specs.Rows.{ninePlaces}
+use Rattle.nine_places.specs.Places.{ninePlaces}
 use Rattle.labels.specs.Titles.{titleOf}
 use Rattle.program_name.specs.ProgramName.{nameInLine}
 use Rattle.undrawn_count.specs.Count.{undrawnCount}

@@ -26,7 +26,7 @@ use largest_difference::SAMPLES;
 use largest_difference::find_largest;
 use numerals::put_decimal;
 use program_name::put_name_in_line;
-use rows::put_nine_places;
+use nine_places::put_nine_places;
 use strip::sample_position;
 use text::put;
 use undrawn_bytes::put_undrawn_part;

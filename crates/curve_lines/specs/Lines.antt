@@ -7,7 +7,7 @@ use Rattle.curve_finder.specs.declared.CurveAnswer.{CurveAnswer}
 use Rattle.curve_finder.specs.declared.CurveAnswer.the-variants.{Found, NoneFound, Refused}
 use Rattle.text.specs.Text.{ascii}
 use Rattle.numerals.specs.Spelled.{decimalOf}
-use Rattle.rows.specs.Rows.{ninePlaces}
+use Rattle.nine_places.specs.Places.{ninePlaces}
 
 -- A number on a line, behind what it is.
 unfoldable pub numberLine : List ℕ → ℕ → List ℕ

@@ -5,7 +5,7 @@ use curve_finder::CurveAnswer;
 use envelope_settings::sustain_end;
 use numerals::put_decimal;
 use refusals::refusal_number;
-use rows::put_nine_places;
+use nine_places::put_nine_places;
 use text::put;
 
 // A number on a line, behind what it is.

@@ -1,23 +1,24 @@
 -- THE ENDS OF AN ENVELOPE'S STRETCHES are in order from 0 to at most 2, for all bytes. A width is at most the sum it is part of, so its share of the total
 -- is at most 1; at most 1/2 where twice the width is at most the total. Either attack and decay are both at most 1/2, and then each
--- has half at most; or the total is at least 1, and then the held part has half at most, and so has the smaller of the two. Assumes nothing.
-use mathlib.Core.Path.{_≡_, refl, ap}
+-- has half at most; or the total is at least 1, and then the held part has half at most, and so has the smaller of the two. Which of the ends are at 0 is told by the bytes. Assumes nothing.
+use mathlib.Core.Path.{_≡_, refl, sym, ap, _∙_}
 use mathlib.Core.Logic.{_⊎_, inl, inr}
-use mathlib.Core.Bool.{Bool}
-use Prim.Native.Nat.{ℕ, _*_, _≤_, _<_}
+use mathlib.Core.Bool.{Bool, false, _&&_}
+use Prim.Native.Nat.{ℕ, zero, suc, _*_, _≤_, _<_}
 use native.Mathlib.Nat.{mul-le-mul-right, le-of-mul-le-mul-right}
 use native.Mathlib.Omega.{arith}
-use lib.Dec.{T, eqb, eqb→eq}
-use lib.Ieee.{Float, binary32, ofBits, ofInt, fits, lt, le, eq, add, div}
+use lib.Dec.{T, eqb, eqb→eq, eqb·suc-zero, not-T}
+use lib.Ieee.{Float, binary32, ofBits, ofInt, fits, lt, le, eq, add, div, round}
+use lib.Ieee.Bits.{is-false}
 use lib.Ieee.Fits.{add-fits, div-fits}
 use lib.Ieee.Positive.{num, den, den-pos, positive}
 use Rattle.exact.specs.Binary32.{_⊕_, _⊘_, bits, zero₃₂, half₃₂, one₃₂}
 use Rattle.exact.proofs.Close.{ring}
 use Rattle.exact.proofs.Order.{le-trans}
-use Rattle.rounding.proofs.Monotone.{unsigned, unsigned-finite, le-cross, le-self, le-either, positive-above, add-mono, add-unsigned, add-from-left, add-from-right, div-at-most, div-unsigned}
+use Rattle.rounding.proofs.Monotone.{unsigned, unsigned-finite, le-cross, le-self, le-either, positive-above, add-mono, add-unsigned, add-from-left, add-from-right, div-at-most, div-at-least, div-nothing, div-unsigned}
 use Rattle.lists.proofs.Every.{every, each}
 use Rattle.settings.specs.Settings.{byteOf}
-use Rattle.envelope_settings.specs.Formula.{totalOf}
+use Rattle.envelope_settings.specs.Formula.{totalOf, firstOf, secondOf, thirdOf}
 use Rattle.settings.proofs.Bytes.{unit-unsigned, unit-to-one, from-zero, byte-unit, byte-holds}
 
 -- ---- a width: no sign, at most 1, and twice it is exact
@@ -70,6 +71,9 @@ held a d = a ⊕ d ⊕ half₃₂
 abbrev total : Float → Float → Float → Float
 total a d r = held a d ⊕ r
 
+abbrev four₃₂ : Float
+four₃₂ = bits 0x4080_0000
+
 record Divisor (t : Float) : Type 0 where
   plain : T (unsigned t)
   above : T (positive t)
@@ -83,6 +87,7 @@ record Total (a d r : Float) : Type 0 where
   both : T (le (a ⊕ d) (total a d r))
   half : T (le half₃₂ (total a d r))
   rest : T (le (held a d) (total a d r))
+  most : T (le (total a d r) four₃₂)
 
 totals : {a d r : Float} → Width a → Width d → Width r → Total a d r
 unfolding ofBits add fits le lt eq
@@ -102,6 +107,7 @@ totals {a} {d} {r} ha hd hr =
       both = le-trans (a ⊕ d) (held a d) t (add-from-left binary32 (a ⊕ d) half₃₂ (s₁ .plain) tt (add-fits binary32 a d)) l;
       half = h;
       rest = l;
+      most = s₃ .to;
     }
 
 -- ---- a share of the total t is at most 1, and at most 1/2 where twice the width is at most t
@@ -220,3 +226,86 @@ width-ends {a} {d} {r} ha hd hr = go (le-either a half₃₂ (ha .plain) tt) (le
 pub ends : (a d r : ℕ) → a < 256 → d < 256 → r < 256 → Ends (byteOf a) (byteOf d) (totalOf a d r)
 unfolding totalOf
 ends a d r ha hd hr = width-ends (byte-width a ha) (byte-width d hd) (byte-width r hr)
+
+-- ---- A SHARE IS NOTHING where its byte is 0, and at least 2^-10 where it isn't: a byte above 0 is at least 2^-8, and the total is at most 4
+abbrev least : Float
+least = bits 0x3a80_0000
+
+abbrev some : Float
+some = bits 0x3b80_0000
+
+some-share : {x t : Float} → Width x → Divisor t → T (le t four₃₂) → T (le some x) → T (le least (x ⊘ t))
+unfolding ofBits fits
+some-share {x} {t} w p h k =
+    div-at-least binary32 x t least (w .plain) (p .above) tt tt (core (num x) (den x) (num t) (den t) (le-cross some x tt (w .plain) k) (le-cross t four₃₂ (p .plain) tt h))
+  where
+    core : (a c b d : ℕ) → 1 * c ≤ a * 256 → b * 1 ≤ 4 * d → 1 * (b * c) ≤ a * d * 1024
+    core a c b d h k = simp ring (omega (arith, simp ring at (mul-le-mul-right (4 * d) h), simp ring at (mul-le-mul-right c k)))
+
+all-some : T (every (λ k. le some (byteOf (suc k))) 255)
+unfolding every byteOf ofBits ofInt div le lt eq
+all-some = tt
+
+no-share : (t : Float) → T (positive t) → byteOf 0 ⊘ t ≡ zero₃₂
+unfolding byteOf ofBits ofInt div round
+no-share t p = div-nothing binary32 (byteOf 0) t tt refl p
+
+-- ---- WHICH ENDS ARE AT 0: the first where the attack's byte is 0, the second where the decay's is too, the third never
+above-zero : (y : Float) → T (le least y) → le y zero₃₂ ≡ false
+unfolding ofBits
+above-zero y h = is-false (le y zero₃₂) (not-T (le y zero₃₂) (λ k. unfold le lt eq in le-trans least y zero₃₂ h k))
+
+byte-share : (k : ℕ) {t : Float} → suc k < 256 → Divisor t → T (le t four₃₂) → T (le least (byteOf (suc k) ⊘ t))
+byte-share k h p m = some-share (byte-width (suc k) h) p m (each (λ k. le some (byteOf (suc k))) 255 k all-some (omega arith))
+
+first-tested : (a : ℕ) (t : Float) → a < 256 → Divisor t → T (le t four₃₂) → le (byteOf a ⊘ t) zero₃₂ ≡ eqb a 0
+unfolding ofBits le lt eq
+first-tested zero t h p m = rw (no-share t (p .above)) refl
+first-tested (suc k) t h p m = above-zero (byteOf (suc k) ⊘ t) (byte-share k h p m) ∙ sym (eqb·suc-zero k)
+
+second-tested : (a d : ℕ) (t : Float) → a < 256 → d < 256 → Divisor t → T (le t four₃₂) → T (unsigned (byteOf a ⊘ t)) → T (unsigned (byteOf d ⊘ t)) → le (second (byteOf a) (byteOf d) t) zero₃₂ ≡ (eqb a 0 && eqb d 0)
+unfolding ofBits add le lt eq
+second-tested zero zero t ha hd p m u v = rw (no-share t (p .above)) refl
+second-tested zero (suc k) t ha hd p m u v =
+    above-zero (second (byteOf 0) (byteOf (suc k)) t)
+    (le-trans least (byteOf (suc k) ⊘ t) (second (byteOf 0) (byteOf (suc k)) t) (byte-share k hd p m) (add-from-right binary32 (byteOf 0 ⊘ t) (byteOf (suc k) ⊘ t) u v (div-fits binary32 (byteOf (suc k)) t))) ∙
+    sym (eqb·suc-zero k)
+second-tested (suc k) d t ha hd p m u v =
+    above-zero (second (byteOf (suc k)) (byteOf d) t)
+    (le-trans least (byteOf (suc k) ⊘ t) (second (byteOf (suc k)) (byteOf d) t) (byte-share k ha p m) (add-from-left binary32 (byteOf (suc k) ⊘ t) (byteOf d ⊘ t) u v (div-fits binary32 (byteOf (suc k)) t))) ∙
+    sym (ap (λ (z : Bool). z && eqb d 0) (eqb·suc-zero k))
+
+pub record AtZero (a d r : ℕ) : Type 0 where
+  pub first : le (firstOf a d r) zero₃₂ ≡ eqb a 0
+  pub second : le (secondOf a d r) zero₃₂ ≡ (eqb a 0 && eqb d 0)
+  pub third : le (thirdOf a d r) zero₃₂ ≡ false
+
+pub at-zero : (a d r : ℕ) → a < 256 → d < 256 → r < 256 → AtZero a d r
+unfolding totalOf firstOf secondOf thirdOf ofBits le lt eq
+at-zero a d r ha hd hr =
+    record {
+      first = first-tested a s ha (t .is) (t .most);
+      second = second-tested a d s ha hd (t .is) (t .most) u v;
+      third = above-zero (third x y s) (le-trans least (half₃₂ ⊘ s) (third x y s) (some-share half-width (t .is) (t .most) tt) (add-from-right binary32 (second x y s) (half₃₂ ⊘ s) both (share half-width (t .is) (t .half) .plain) (div-fits binary32 half₃₂ s)));
+    }
+  where
+    x : Float
+    x = byteOf a
+
+    y : Float
+    y = byteOf d
+
+    s : Float
+    s = totalOf a d r
+
+    t : Total x y (byteOf r)
+    t = totals (byte-width a ha) (byte-width d hd) (byte-width r hr)
+
+    u : T (unsigned (x ⊘ s))
+    u = share (byte-width a ha) (t .is) (le-trans x (x ⊕ y) s (t .attack) (t .both)) .plain
+
+    v : T (unsigned (y ⊘ s))
+    v = share (byte-width d hd) (t .is) (le-trans y (x ⊕ y) s (t .decay) (t .both)) .plain
+
+    both : T (unsigned (second x y s))
+    both = let e = ends a d r ha hd hr in add-unsigned binary32 (x ⊘ s) (y ⊘ s) two₃₂ u v tt (le-trans (second x y s) (third x y s) two₃₂ (e .second-third) (e .to))

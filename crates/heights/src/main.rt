@@ -1,4 +1,4 @@
-// Prints a strip as text: the arguments are a generator's code and how many samples, and the block is on standard input. What is refused prints one line, `refused` and the refusal's number.
+// Prints a strip as text, an envelope's with the caption of each sample: the arguments are a generator's code and how many samples, and the block is on standard input. What is refused prints one line, `refused` and the refusal's number.
 ghost use mathlib.Core.Path.{_≡_};
 ghost use Prim.Native.Nat.{_≤_};
 ghost use lib.ListN.{length};
@@ -11,17 +11,23 @@ use refusals::Refusal;
 use refusals::refusal_number;
 use rows::put_rows;
 
-// Room for one sample more than the longest strip has, and for the rows of that. The contracts give the lengths only, which lending them as slices asks for.
+// Room for one sample more than the longest strip has, for their captions, and for the rows of that. The contracts give the lengths only, which lending them as slices asks for.
 fn samples() -> [f32; 4097]
     ensures { λ r. ⌜ 4097 ≡ length r ⌝ }
 {
     [0.0; 4097]
 }
 
-fn page() -> [u8; 180000]
-    ensures { λ r. ⌜ 180000 ≡ length r ⌝ }
+fn segments() -> [u8; 4097]
+    ensures { λ r. ⌜ 4097 ≡ length r ⌝ }
 {
-    [0; 180000]
+    [0; 4097]
+}
+
+fn page() -> [u8; 210000]
+    ensures { λ r. ⌜ 210000 ≡ length r ⌝ }
+{
+    [0; 210000]
 }
 
 fn refuse(r: Refusal) {
@@ -54,19 +60,27 @@ fn print_first(text: &[u8], n: usize) {
     }
 }
 
-fn print_rows(heights: &[f32]) {
+fn print_rows(heights: &[f32], captions: &[u8]) {
     let mut text = page();
-    let n = put_rows(&mut text, 0, heights);
+    let n = put_rows(&mut text, 0, heights, captions);
     print_first(&text, n);
 }
 
-// A strip of n samples, in the first n places of `heights`.
-fn print_strip(block: &[u8], code: u32, heights: &mut [f32], n: usize)
-    requires { ⌜ n ≤ length (now heights) ⌝ }
+// A strip that is filled, with the captions of its samples: what would refuse them has not refused the strip.
+fn print_captioned(block: &[u8], code: u32, heights: &[f32], captions: &mut [u8]) {
+    block_captions::captions(block, code, captions);
+    print_rows(heights, captions);
+}
+
+// A strip of n samples, in the first n places of `heights`, and their captions in those of `captions`.
+fn print_strip(block: &[u8], code: u32, heights: &mut [f32], captions: &mut [u8], n: usize)
+    requires { ⌜ (n ≤ length (now heights)) × (n ≤ length (now captions)) ⌝ }
 {
     let answer = block_strip_once::strip_once(block, code, &mut heights[..n]);
     match answer {
-        StripAnswer::Filled(_) => print_rows(&heights[..n]),
+        StripAnswer::Filled(_) => {
+            print_captioned(block, code, &heights[..n], &mut captions[..n]);
+        }
         StripAnswer::Refused(r) => refuse(r),
     }
 }
@@ -77,5 +91,6 @@ fn main() {
     let mut block = [0u8; 243];
     let got = io::read_full(STDIN_FILENO, &mut block);
     let mut heights = samples();
-    print_strip(&block[..got], code, &mut heights, n);
+    let mut captions = segments();
+    print_strip(&block[..got], code, &mut heights, &mut captions, n);
 }

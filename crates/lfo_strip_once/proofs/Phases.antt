@@ -11,9 +11,9 @@ use lib.Ieee.Fits.{up-pos, down-pos}
 use lib.Ieee.Positive.{positive}
 use lib.Ieee.Scale.{round-same}
 use Rattle.exact.specs.Binary32.{_⊗_, one₃₂}
-use Rattle.rounding.proofs.Monotone.{unsigned, mul-mono, div-mono}
+use Rattle.rounding.proofs.Monotone.{unsigned, mul-mono}
 use Rattle.strip.specs.Strip.{partOf, samplePosition}
-use Rattle.strip.proofs.SamplePositions.{whole-unsigned, whole-positive, whole-le, part-unsigned}
+use Rattle.strip.proofs.SamplePositions.{whole-positive, part-unsigned, part-rises}
 use Rattle.lfo_strip_once.specs.Once.{forward}
 
 -- ---- a number of turns has no sign
@@ -31,8 +31,8 @@ unfolding samplePosition
 phase-rises turns h n i j a b k l =
     let some : 0 < n - 1 = omega arith in
     let few : n - 1 ≤ 4096 = omega arith in
-    let rises = div-mono binary32 (ofInt binary32 (pos i)) (ofInt binary32 (pos j)) (ofInt binary32 (pos (n - 1))) (whole-unsigned i (omega arith)) (whole-unsigned j (omega arith)) (whole-positive (n - 1) few some) (whole-le i j k) in
-    mul-mono binary32 (partOf i (n - 1)) (partOf j (n - 1)) turns (part-unsigned (n - 1) some few i (omega arith)) (part-unsigned (n - 1) some few j (omega arith)) (forward-unsigned turns h) rises
+    mul-mono binary32 (partOf i (n - 1)) (partOf j (n - 1)) turns (part-unsigned (n - 1) some few i (omega arith)) (part-unsigned (n - 1) some few j (omega arith)) (forward-unsigned turns h)
+    (part-rises (n - 1) some few i (omega arith) j k (omega arith))
 
 -- ---- a positive float over itself is 1
 one-rounded : round binary32 false 1 1 ≡ one₃₂

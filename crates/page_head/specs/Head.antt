@@ -21,5 +21,5 @@ headText file block =
 -- How to read the page, which file it is of, and where the parameters are that are not on it.
 unfoldable pub footText : List ℕ → List ℕ → List ℕ
 footText file block =
-    ascii "<text x='1150' y='20200'>Bold: the bytes to dial in, 0 to 255. A, D, S, R: where attack, decay, sustain and release start. Dashed: the rest level. May start anywhere: a cycle that runs on, drawn from its start. Each bar is struck anew. A frame is 50 mm by 25 mm.</text>\n<text x='1150' y='20540'>" ++ fileText file block ++
+    ascii "<text x='1150' y='20200'>Bold: the bytes to dial in, 0 to 255. A, D, S, R: attack, decay, sustain, release. Dashed: the rest level. May start anywhere: a cycle that runs on, drawn from its start. Each bar is struck anew. A frame is 50 mm by 25 mm.</text>\n<text x='1150' y='20540'>" ++ fileText file block ++
     ascii ". All 242 parameters are on a page of their own: juvrada parameters.</text>\n</svg>\n"

@@ -45,7 +45,7 @@ pub fn put_foot(out: &mut [u8], at: usize, file: &[u8], block: &[u8]) -> usize
     let mut next = put(
         out,
         at,
-        b"<text x='1150' y='20200'>Bold: the bytes to dial in, 0 to 255. A, D, S, R: where attack, decay, sustain and release start. Dashed: the rest level. May start anywhere: a cycle that runs on, drawn from its start. Each bar is struck anew. A frame is 50 mm by 25 mm.</text>\n<text x='1150' y='20540'>",
+        b"<text x='1150' y='20200'>Bold: the bytes to dial in, 0 to 255. A, D, S, R: attack, decay, sustain, release. Dashed: the rest level. May start anywhere: a cycle that runs on, drawn from its start. Each bar is struck anew. A frame is 50 mm by 25 mm.</text>\n<text x='1150' y='20540'>",
     );
     next = put_file(out, next, file, block);
     put(

@@ -4,12 +4,26 @@ ghost use lib.ListN.{length};
 ghost use Rattle.text.specs.Text.{Puts};
 ghost use Rattle.code_bytes.specs.Bytes.{blockLength, byteAt};
 ghost use Rattle.code_shapes.specs.Shapes.{shapeOf};
-ghost use Rattle.panel_curves.specs.Curves.{drawnText, olderText};
+ghost use Rattle.panel_curves.specs.Curves.{segmentsText, drawnText, olderText};
 use builders::of_shape;
+use captions::NO_CAPTION;
 use code_shapes::shape_at;
 use code_strip::strip_once_at;
 use codes::Code;
+use marks::Marks;
+use panel_captions::put_captions;
 use panel_line::SAMPLES;
+use panel_marks::put_marks;
+
+// What stands at a curve's marks: the captions, if it has any, or the marks.
+fn put_segments(out: &mut [u8], at: usize, marks: Marks, captions: &[u8; SAMPLES]) -> usize
+    ensures { λ r. ⌜ Puts (now (out .entry)) at (segmentsText marks (now (captions .entry))) (now (out .exit)) r ⌝ }
+{
+    if captions[0] == NO_CAPTION {
+        return put_marks(out, at, marks);
+    }
+    put_captions(out, at, captions)
+}
 
 // What is drawn of a code's generator.
 pub fn put_drawn(out: &mut [u8], at: usize, block: &[u8], code: Code) -> usize
@@ -19,9 +33,11 @@ pub fn put_drawn(out: &mut [u8], at: usize, block: &[u8], code: Code) -> usize
     let mut heights = [0.0f32; SAMPLES];
     strip_once_at(block, code, &mut heights);
     let g = of_shape(shape_at(block, code));
+    let mut captions = [0u8; SAMPLES];
+    captions::captions(g, &mut captions);
     let mut next = panel_labels::put_subtitle(out, at, g.scale(), g.anchored());
     next = panel_frame::put_rest(out, next, g.rest());
-    next = panel_marks::put_marks(out, next, g.marks());
+    next = put_segments(out, next, g.marks(), &captions);
     panel_line::put_curve(out, next, &heights)
 }
 

@@ -1,19 +1,19 @@
 -- ROUNDING KEEPS THE ORDER of floats with no sign: finite ones from +0 up. A sum is at least each of its parts, a product by at most 1 is at most the
--- other factor, a quotient of x by t is at most q where x is at most q t; a sum grows with its parts, a product with its first factor and a quotient
+-- other factor, a quotient of x by t is at most q where x is at most q t, and at least q where it is at least q t; a sum grows with its parts, a product with its first factor and a quotient
 -- with what is divided. All over the format, from `round-mono` (lib.Ieee.Order). A float with no sign is `num` / `den` (lib.Ieee.Positive). Assumes nothing.
-use mathlib.Core.Path.{_≡_, refl, sym, subst}
+use mathlib.Core.Path.{_≡_, refl, sym, subst, _∙_}
 use mathlib.Core.Logic.{_⊎_, inl, inr}
 use mathlib.Core.Bool.{Bool, true, false, not, cond, true≢false}
 use Prim.Native.Nat.{ℕ, zero, suc, _+_, _*_, _^_, _≤_, _<_}
 use native.Mathlib.Nat.{le-refl, le-of-eq, mul-pos, mul-comm, mul-le-mul-right}
 use native.Mathlib.Omega.{arith}
 use lib.IntN.{ℤ, pos}
-use lib.Dec.{T, ltb, eqb, eqb·suc-zero, lt→ltb, ltb→lt}
+use lib.Dec.{T, ltb, eqb, eqb·suc-zero, lt→ltb, ltb→lt, lit<}
 use lib.Ieee.{Float, nan, inf, fin, Format, prec, low, up, down, odd, units, round, sum, add, mul, div, fits, lt, le, eq}
 use lib.Ieee.Fits.{down-pos, up-pos, round-is}
 use lib.Ieee.Exact.{HasValue, odd-sign, round-exact}
 use lib.Ieee.Order.{drop, kept, le-of-values, round-mono}
-use lib.Ieee.Scale.{finite, overflow}
+use lib.Ieee.Scale.{finite, overflow, round-same}
 use lib.Ieee.Positive.{num, den, den-pos, positive}
 use Rattle.exact.specs.Fraction.{whole, _≤ℚ_}
 use Rattle.exact.specs.Value.{value}
@@ -251,6 +251,18 @@ mul-unsigned f x y hi u v t h =
 pub div-at-most : (f : Format) (x t q : Float) → T (unsigned x) → T (positive t) → T (unsigned q) → T (fits f q) → num x * den t * den q ≤ num q * (num t * den x) → T (le (div f x t) q)
 div-at-most f x t q u p v k h =
     subst (λ (z : Float). T (le z q)) (sym (div-is f x t u p)) (round-at-most f q (num x * den t) (num t * den x) v k (mul-pos (positive-num t p) (den-pos x)) h)
+
+-- and at least q where q t ≤ x
+pub div-at-least : (f : Format) (x t q : Float) → T (unsigned x) → T (positive t) → T (unsigned q) → T (fits f q) → num q * (num t * den x) ≤ num x * den t * den q → T (le q (div f x t))
+div-at-least f x t q u p v k h =
+    subst (λ (z : Float). T (le q z)) (sym (div-is f x t u p)) (round-at-least f q (num x * den t) (num t * den x) v k (mul-pos (positive-num t p) (den-pos x)) h)
+
+-- nothing, divided, is the rounding of nothing
+pub div-nothing : (f : Format) (x t : Float) → T (unsigned x) → num x ≡ 0 → T (positive t) → div f x t ≡ round f false 0 1
+div-nothing f x t u e p = div-is f x t u p ∙ round-same f false (num x * den t) (num t * den x) 0 1 (mul-pos (positive-num t p) (den-pos x)) (lit< tt) (rw e (core (den t) (num t * den x)))
+  where
+    core : (d c : ℕ) → 0 * d * 1 ≡ 0 * c
+    core d c = omega arith
 
 pub div-unsigned : (f : Format) (x t hi : Float) → T (unsigned x) → T (positive t) → T (finite hi) → T (le (div f x t) hi) → T (unsigned (div f x t))
 div-unsigned f x t hi u p k h =

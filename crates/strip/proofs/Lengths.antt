@@ -10,9 +10,9 @@ use Rattle.strip.specs.Strip.{lengthFits}
 pub fits-between : (n : ℕ) → 2 ≤ n → n ≤ 4096 → lengthFits n ≡ true
 fits-between n h k = simp (le-leb 2 n h, le-leb n 4096 k)
 
+pub between-fits : (n : ℕ) → T (lengthFits n) → (2 ≤ n) × (n ≤ 4096)
+between-fits n h = (leb→le 2 n (and-l (leb 2 n) (leb n 4096) h), leb→le n 4096 (and-r (leb 2 n) (leb n 4096) h))
+
 -- where `fits` does not say otherwise
 pub between : (n : ℕ) {fit : Bool} → fit ≡ lengthFits n → not fit ≡ false → (2 ≤ n) × (n ≤ 4096)
-between n {fit} e t = (leb→le 2 n (and-l (leb 2 n) (leb n 4096) h), leb→le n 4096 (and-r (leb 2 n) (leb n 4096) h))
-  where
-    h : T (lengthFits n)
-    h = subst T (sym (not-false fit t) ∙ e) tt
+between n {fit} e t = between-fits n (subst T (sym (not-false fit t) ∙ e) tt)

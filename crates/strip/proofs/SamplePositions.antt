@@ -1,22 +1,22 @@
--- THE SAMPLES OF A STRIP LIE FROM 0 TO 1: i / last is a number with no sign, and not above 1 where i is at most last. So such a position is not clamped. Assumes nothing.
+-- THE SAMPLES OF A STRIP LIE FROM 0 TO 1: i / last is a number with no sign, and not above 1 where i is at most last. So such a position is not clamped. The first lies at 0, and none lies before an earlier one. Assumes nothing.
 use mathlib.Core.Path.{_≡_, refl}
 use mathlib.Core.Bool.{false}
 use Prim.Native.Nat.{ℕ, _*_, _-_, _≤_, _<_}
 use native.Mathlib.Omega.{arith}
 use lib.IntN.{pos}
 use lib.Dec.{T, lit<}
-use lib.Ieee.{Float, nan, inf, fin, binary32, ofBits, ofInt, fits, isNan, lt, le}
+use lib.Ieee.{Float, nan, inf, fin, binary32, round, ofBits, ofInt, fits, isNan, lt, le}
 use lib.Ieee.Bits.{is-false}
 use lib.Ieee.Order.{round-mono}
 use lib.Ieee.Positive.{num, den, positive, positive-of-value}
 use lib.Ieee.Scale.{finite}
 use Rattle.exact.specs.Binary32.{zero₃₂, one₃₂}
-use Rattle.rounding.proofs.Monotone.{unsigned, of-value, le-cross, cross-le, unsigned-finite, div-at-most, div-unsigned}
+use Rattle.rounding.proofs.Monotone.{unsigned, of-value, le-cross, cross-le, unsigned-finite, div-at-most, div-nothing, div-unsigned, div-mono}
 use Rattle.math.specs.Formulas.{clampOf}
 use Rattle.math.proofs.Whole.{of-int}
 use Rattle.curve.specs.Curve.{positionOf}
 use Rattle.walk.proofs.Steps.{le-nlt}
-use Rattle.strip.specs.Strip.{partOf}
+use Rattle.strip.specs.Strip.{partOf, samplePosition}
 
 -- ---- the number of a sample, as a float
 module _ (i : ℕ) (h : i ≤ 4096) where
@@ -49,6 +49,16 @@ module _ (last : ℕ) (some : 0 < last) (h : last ≤ 4096) (i : ℕ) (k : i ≤
   pub part-unsigned : T (unsigned (partOf i last))
   unfolding ofBits
   part-unsigned = div-unsigned binary32 (ofInt binary32 (pos i)) (ofInt binary32 (pos last)) one₃₂ (whole-unsigned i (omega arith)) (whole-positive last h some) tt part-to-one
+
+  -- a later sample lies no nearer to 0
+  pub part-rises : (j : ℕ) → i ≤ j → j ≤ last → T (le (partOf i last) (partOf j last))
+  part-rises j a b =
+      div-mono binary32 (ofInt binary32 (pos i)) (ofInt binary32 (pos j)) (ofInt binary32 (pos last)) (whole-unsigned i (omega arith)) (whole-unsigned j (omega arith)) (whole-positive last h some) (whole-le i j a)
+
+-- the first lies at 0
+pub first-at-zero : (n : ℕ) → 2 ≤ n → n ≤ 4096 → samplePosition n 0 ≡ zero₃₂
+unfolding samplePosition ofInt ofBits round
+first-at-zero n h k = div-nothing binary32 (ofInt binary32 (pos 0)) (ofInt binary32 (pos (n - 1))) tt refl (whole-positive (n - 1) (omega arith) (omega arith))
 
 -- ---- a position from 0 to 1 is itself
 from-zero : (t : Float) → T (unsigned t) → T (le zero₃₂ t)

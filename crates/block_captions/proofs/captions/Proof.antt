@@ -2,7 +2,7 @@
 use mathlib.Core.Path.{sym, _∙_}
 use borrow.Author.Needs.{needs}
 use Rattle.block_captions.specs.Answers.{captionedAnswer, captionsAnswer, captionsAfter}
-use Rattle.block_captions.proofs.Refused.{captions-answered}
+use Rattle.block_captions.proofs.Answered.{captions-answered}
 use Rattle.block_captions.proofs.captions.Statement.{statement}
 use Rattle.block_captions.proofs.captions.Tie as tie
 

@@ -1,7 +1,7 @@
 -- `put_found` puts `foundText`: its parts, one after the other. Assumes nothing.
 use mathlib.Core.Path.{ap}
 use Rattle.text.proofs.Writing.{_⨾_, puts-as}
-use Rattle.rows.specs.Rows.{ninePlaces}
+use Rattle.nine_places.specs.Places.{ninePlaces}
 use Rattle.curve_lines.specs.Lines.{foundText}
 use borrow.Author.Needs.{needs}
 use Rattle.curve_lines.proofs.put_found.Statement.{statement}

@@ -10,10 +10,10 @@ use Rattle.rows.proofs.put_samples.Statement.{statement}
 use Rattle.rows.proofs.put_samples.Tie as tie
 
 abbrev Inv-loop : tie.InvT-loop
-Inv-loop out₀ at heights next₀ i₀ out next i = (i ≤ length heights) × (length out ≡ length out₀) × Puts out₀ at (someRows heights i) out next
+Inv-loop out₀ at heights captions next₀ i₀ out next i = (i ≤ length heights) × (length out ≡ length out₀) × Puts out₀ at (someRows heights captions i) out next
 
 abbrev μ-loop : tie.MeasureT-loop
-μ-loop out₀ at heights next₀ i₀ out next i = length heights - i
+μ-loop out₀ at heights captions next₀ i₀ out next i = length heights - i
 
 loop-holds : tie.Need-loop-holds Inv-loop μ-loop
 loop-holds c = (search needs, search needs, no-text _)

@@ -1,8 +1,8 @@
 -- `put_nine_places` puts `ninePlaces`. Assumes nothing.
-use Rattle.rows.specs.Rows.{ninePlaces}
+use Rattle.nine_places.specs.Places.{ninePlaces}
 use borrow.Author.Needs.{needs}
-use Rattle.rows.proofs.put_nine_places.Statement.{statement}
-use Rattle.rows.proofs.put_nine_places.Tie as tie
+use Rattle.nine_places.proofs.put_nine_places.Statement.{statement}
+use Rattle.nine_places.proofs.put_nine_places.Tie as tie
 
 pub put-nine-places-spec : {M : Type 1} → statement M
 unfolding ninePlaces

@@ -1,0 +1,2 @@
+-- The cells of an envelope's captions.
+pub mod Cells

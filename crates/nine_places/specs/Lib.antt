@@ -1,0 +1,2 @@
+-- A number from 0 to 1 in nine places.
+pub mod Places
