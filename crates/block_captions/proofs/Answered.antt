@@ -89,5 +89,5 @@ captions-answered {block} {code} {before} {after} b e a =
     own c f t i h =
         let s = shapeOf c (byteAt block) in
         let fits = between-fits (length before) t in
-        let is = ap (λ (xs : List ℕ). getD xs i noCaption) f ∙ captions-at s before (fits .0) (fits .1) i h ∙ ap (λ (n : ℕ). captionAt s n i) (sym size) in
+        let is = ap (λ (xs : List ℕ). getD xs i noCaption) f ∙ captions-at noCaption s before (fits .0) (fits .1) i h ∙ ap (λ (n : ℕ). captionAt s n i) (sym size) in
         record { caption = is; changed = is ∙ rw size (code-changed c (byteAt block) b (length before) i (fits .0) (fits .1)) }

@@ -1,3 +1,4 @@
--- Captions never go back, and the samples of a segment.
+-- Captions never go back, the samples of a segment, and the edges of its cell.
 pub mod Rise
 pub mod Stretches
+pub mod Edges

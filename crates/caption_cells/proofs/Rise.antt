@@ -27,11 +27,13 @@ at-most false k x m h l = l
 
 segments-rise : (e : Envelope) (p q : Float) → T (le p q) → lastSegment (envelopeMarks e) p ≤ lastSegment (envelopeMarks e) q
 segments-rise e p q h =
-    let later = λ (x : Float) (k : T (le x p)). le-trans x p q k h in
     let decay = rises (le (e .first) p) (le (e .first) q) 1 0 0 (later (e .first)) (omega arith) (omega arith) in
     let sustain = rises (le (e .second) p) (le (e .second) q) 2 _ _ (later (e .second)) (at-most (le (e .first) p) 1 0 2 (omega arith) (omega arith)) decay in
     rw (by-ends e p, by-ends e q)
     (rises (le (e .third) p) (le (e .third) q) 3 _ _ (later (e .third)) (at-most (le (e .second) p) 2 _ 3 (omega arith) (at-most (le (e .first) p) 1 0 3 (omega arith) (omega arith))) sustain)
+  where
+    later : (x : Float) → T (le x p) → T (le x q)
+    later x k = le-trans x p q k h
 
 pub captions-rise : (s : Shape) (n i j : ℕ) → 2 ≤ n → n ≤ 4096 → i ≤ j → j < n → captionAt s n i ≤ captionAt s n j
 unfolding captionOf samplePosition

@@ -1,7 +1,7 @@
 // Where the cells of an envelope's captions stand below its frame.
 ghost use mathlib.Core.Path.{_≡_};
 ghost use Prim.Native.Nat.{_+_, _≤_, _<_};
-ghost use Rattle.caption_cells.specs.Cells.{samplesBefore, startOf, cellEnd};
+ghost use Rattle.caption_cells.specs.Cells.{beforeOf, samplesBefore, startOf, cellEnd};
 use lists::at_most;
 use panel_line::SAMPLES;
 
@@ -12,6 +12,16 @@ const STEP: usize = 10;
 
 const LETTER: u64 = 220;
 
+// 1 for a caption of a segment before k, and 0 for another.
+fn counted(caption: u8, k: u8) -> usize
+    ensures { λ r. ⌜ (r ≡ beforeOf caption k) × (r ≤ 1) ⌝ }
+{
+    if caption < k {
+        return 1;
+    }
+    0
+}
+
 // How many samples are of a segment before k.
 fn samples_before(captions: &[u8; SAMPLES], k: u8) -> usize
     ensures { λ r. ⌜ (r ≡ samplesBefore k (now (captions .entry)) 501) × (r ≤ 501) ⌝ }
@@ -19,9 +29,7 @@ fn samples_before(captions: &[u8; SAMPLES], k: u8) -> usize
     let mut count: usize = 0;
     let mut i: usize = 0;
     while i < SAMPLES {
-        if captions[i] < k {
-            count += 1;
-        }
+        count += counted(captions[i], k);
         i += 1;
     }
     count

@@ -12,7 +12,7 @@ use Rattle.strip.specs.Strip.{lengthFits}
 use Rattle.lists.specs.Written.{written}
 use Rattle.strip.proofs.Lengths.{fits-between}
 use Rattle.lists.proofs.Written.{written-length, written-at}
-use Rattle.captions.specs.Captions.{noCaption, captionAt, captionsOf}
+use Rattle.captions.specs.Captions.{captionAt, captionsOf}
 
 pub captions-length : (s : Shape) (xs : List ℕ) → length (captionsOf s xs) ≡ length xs
 unfolding captionsOf
@@ -22,9 +22,9 @@ captions-length s xs = go (lengthFits (length xs))
     go true = written-length (captionAt s (length xs)) (length xs) xs
     go false = refl
 
-pub captions-at : (s : Shape) (xs : List ℕ) → 2 ≤ length xs → length xs ≤ 4096 → (i : ℕ) → i < length xs → getD (captionsOf s xs) i noCaption ≡ captionAt s (length xs) i
+pub captions-at : (d : ℕ) (s : Shape) (xs : List ℕ) → 2 ≤ length xs → length xs ≤ 4096 → (i : ℕ) → i < length xs → getD (captionsOf s xs) i d ≡ captionAt s (length xs) i
 unfolding captionsOf
-captions-at s xs h k i l = simp (fits-between (length xs) h k) (written-at (captionAt s (length xs)) noCaption (length xs) xs i (omega arith) l)
+captions-at d s xs h k i l = simp (fits-between (length xs) h k) (written-at (captionAt s (length xs)) d (length xs) xs i (omega arith) l)
 
 pub fade-has-none : (f : Fade) (n i : ℕ) → captionAt (AFade f) n i ≡ 255
 fade-has-none f n i = refl
