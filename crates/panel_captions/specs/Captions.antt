@@ -2,7 +2,7 @@
 -- 1/100 mm, and y grows downward. Definitions only.
 use mathlib.Core.Bool.{cond}
 use mathlib.Core.List.{List, [], _∷_, _++_}
-use Prim.Native.Nat.{ℕ, suc, _+_, _/_}
+use Prim.Native.Nat.{ℕ, suc, _+_, _-_, _/_}
 use lib.Dec.{leb, ltb}
 use lib.ListN.{getD}
 use Rattle.text.specs.Text.{ascii, textsBelow}
@@ -16,7 +16,7 @@ nameWidth k = getD (800 ∷ 800 ∷ 920 ∷ 980 ∷ []) k 0
 
 -- What stands in the cell of segment k: its name, where that fits between the edges, or its letter.
 unfoldable pub nameText : ℕ → ℕ → ℕ → List ℕ
-nameText k left end = wordOf (ascii "A|D|S|R|Attack|Decay|Sustain|Release") (cond (leb (left + nameWidth k) end) (k + 4) k)
+nameText k left end = cond (leb (nameWidth k) (end - left)) (wordOf (ascii "Attack|Decay|Sustain|Release") k) (wordOf (ascii "A|D|S|R") k)
 
 -- A rule through the frame where the samples start, down to the cell, and the cell, which is open above.
 unfoldable pub outlineText : ℕ → ℕ → ℕ → List ℕ

@@ -14,14 +14,13 @@ const NAMES: [u64; 4] = [800, 800, 920, 980];
 
 // The name of segment k, where it fits between the edges of its cell, or its letter.
 fn put_name(out: &mut [u8], at: usize, k: u8, left: u64, end: u64) -> usize
-    requires { ⌜ (k < 4) × (left ≤ 20000) ⌝ }
+    requires { ⌜ (k < 4) × (left ≤ end) ⌝ }
     ensures { λ r. ⌜ Puts (now (out .entry)) at (nameText k left end) (now (out .exit)) r ⌝ }
 {
-    let mut word = k as usize;
-    if left + NAMES[k as usize] <= end {
-        word = word + 4;
+    if NAMES[k as usize] <= end - left {
+        return put_word(out, at, b"Attack|Decay|Sustain|Release", k as usize);
     }
-    put_word(out, at, b"A|D|S|R|Attack|Decay|Sustain|Release", word)
+    put_word(out, at, b"A|D|S|R", k as usize)
 }
 
 fn put_outline(out: &mut [u8], at: usize, start: u64, left: u64, end: u64) -> usize
@@ -37,7 +36,7 @@ fn put_outline(out: &mut [u8], at: usize, start: u64, left: u64, end: u64) -> us
 }
 
 fn put_label(out: &mut [u8], at: usize, k: u8, left: u64, end: u64) -> usize
-    requires { ⌜ (k < 4) × (left ≤ 20000) × (end ≤ 20000) ⌝ }
+    requires { ⌜ (k < 4) × (left ≤ end) × (end ≤ 20000) ⌝ }
     ensures { λ r. ⌜ Puts (now (out .entry)) at (labelText k left end) (now (out .exit)) r ⌝ }
 {
     let mut next = put(out, at, b"<text class='m' x='");
@@ -49,7 +48,7 @@ fn put_label(out: &mut [u8], at: usize, k: u8, left: u64, end: u64) -> usize
 
 // The cell of segment k, whose samples start at `start`.
 fn put_cell(out: &mut [u8], at: usize, k: u8, start: u64, left: u64, end: u64) -> usize
-    requires { ⌜ (k < 4) × (left ≤ 20000) × (end ≤ 20000) ⌝ }
+    requires { ⌜ (k < 4) × (end ≤ 20000) ⌝ }
     ensures { λ r. ⌜ Puts (now (out .entry)) at (cellBetween k start left end) (now (out .exit)) r ⌝ }
 {
     if left < end {

@@ -1,0 +1,2 @@
+-- The cell of a segment.
+pub mod Cells
