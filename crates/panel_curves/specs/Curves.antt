@@ -28,7 +28,7 @@ uncaptioned = replicate 501 0
 
 -- What stands at a curve's marks: the captions, where its samples have them, and otherwise the marks.
 unfoldable pub segmentsText : Marks → List ℕ → List ℕ
-segmentsText marks captions = cond (eqb (getD captions 0 noCaption) noCaption) (marksText marks) (captionsText captions)
+segmentsText marks captions = cond (eqb (getD captions 0 0) noCaption) (marksText marks) (captionsText captions)
 
 -- What is drawn of a shape.
 unfoldable pub drawnText : Shape → List ℕ

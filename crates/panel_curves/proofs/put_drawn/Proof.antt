@@ -12,19 +12,20 @@ unfolding drawnText generatorOf
 returns c =
     simp blank-filled
     (rw (
-      c .before .before .before .before .before .before .before .before .before .before .before .before .before .before .before .before .before .before .before .scale .ensures,
-      c .before .before .before .before .before .before .before .before .before .before .before .before .before .before .before .before .before .before .anchored .ensures,
-      c .before .before .before .before .before .before .before .before .before .before .before .before .before .rest .ensures,
-      c .before .before .before .before .before .before .before .before .marks .ensures,
-      c .before .before .before .before .before .before .before .before .before .before .before .before .before .before .before .before .before .before .before .before .before .before .before .before .strip-once-at .ensures .1,
-      c .before .before .before .before .before .before .before .before .before .before .before .before .before .before .before .before .before .before .before .before .before .of-shape .ensures,
-      c .before .before .before .before .before .before .before .before .before .before .before .before .before .before .before .before .before .before .before .before .before .before .shape-at .ensures,
+      c .before .before .before .before .before .before .before .before .before .before .before .before .before .before .before .before .before .before .before .before .scale .ensures,
+      c .before .before .before .before .before .before .before .before .before .before .before .before .before .before .before .before .before .before .before .anchored .ensures,
+      c .before .before .before .before .before .before .before .before .before .before .before .before .before .before .rest .ensures,
+      c .before .before .before .before .before .before .before .before .before .marks .ensures,
+      c .before .before .before .before .before .before .before .before .before .before .before .before .before .before .before .before .before .before .before .before .before .before .before .captions2 .ensures .1,
+      c .before .before .before .before .before .before .before .before .before .before .before .before .before .before .before .before .before .before .before .before .before .before .before .before .before .before .before .before .strip-once-at .ensures .1,
+      c .before .before .before .before .before .before .before .before .before .before .before .before .before .before .before .before .before .before .before .before .before .before .before .before .before .of-shape .ensures,
+      c .before .before .before .before .before .before .before .before .before .before .before .before .before .before .before .before .before .before .before .before .before .before .before .before .before .before .shape-at .ensures,
     ) at
-    (c .before .before .before .before .before .before .before .before .before .before .before .before .before .before .before .before .before .put-subtitle .ensures ⨾ c .before .before .before .before .before .before .before .before .before .before .before .before .put-rest .ensures ⨾ c .before .before .before .before .before .before .before .put-marks .ensures ⨾ c .before .before .put-curve .ensures))
+    (c .before .before .before .before .before .before .before .before .before .before .before .before .before .before .before .before .before .before .put-subtitle .ensures ⨾ c .before .before .before .before .before .before .before .before .before .before .before .before .before .put-rest .ensures ⨾ c .before .before .before .before .before .before .before .put-segments .ensures ⨾ c .before .before .put-curve .ensures))
 
 pub put-drawn-spec : {M : Type 1} → statement M
 put-drawn-spec =
     tie.close (tie.spec (λ c. search needs) (λ c κs. search needs) (λ c κs. search needs) (λ c κs. search needs)
-    (λ c κs. search needs) (λ c κs. search needs) (λ c κs. search needs) (λ c κs. search needs) (λ c κs. search needs)
-    (λ c κs. search needs) (λ c κs. search needs) (λ c. search needs) (λ c κs. search needs) (λ c. search needs)
-    returns)
+    (λ c. search needs) (λ c κs. search needs) (λ c κs. search needs) (λ c κs. search needs) (λ c κs. search needs)
+    (λ c κs. search needs) (λ c κs. search needs) (λ c κs. search needs) (λ c κs. search needs) (λ c. search needs)
+    (λ c κs. search needs) (λ c. search needs) returns)
