@@ -1,2 +1,3 @@
--- A row held against its definition.
+-- An element of a list; a row held against its definition.
+pub mod Elements
 pub mod Examples

@@ -9,13 +9,15 @@ use Rattle.rows.proofs.put_row.Tie as tie
 returns : tie.Need-returns
 unfolding rowText
 returns c =
-    c .before .before .before .before .before .before .before .before .before .before .before .before .before .before .before .before .before .before .before .before .before .before .put-decimals .ensures ⨾
-    (rw (c .before .before .before .before .before .before .before .before .before .before .before .before .before .before .before .before .before .before .word-of .ensures) at (c .before .before .before .before .before .before .before .before .before .before .before .before .before .before .before .before .before .put-hex .ensures)) ⨾
-    c .before .before .before .before .before .before .before .before .before .before .before .before .put .ensures ⨾
-    (rw (c .before .before .before .before .before .before .before .before .word-of2 .ensures) at (c .before .before .before .before .before .before .before .put-hex2 .ensures)) ⨾
+    c .before .before .before .before .before .before .before .before .before .before .before .before .before .before .before .before .before .before .before .before .before .before .before .before .before .before .put-decimals .ensures ⨾
+    (rw (c .before .before .before .before .before .before .before .before .before .before .before .before .before .before .before .before .before .before .before .before .before .before .word-of .ensures) at (c .before .before .before .before .before .before .before .before .before .before .before .before .before .before .before .before .before .before .before .before .before .put-hex .ensures)) ⨾
+    c .before .before .before .before .before .before .before .before .before .before .before .before .before .before .before .before .put .ensures ⨾
+    (rw (c .before .before .before .before .before .before .before .before .before .before .before .before .word-of2 .ensures) at (c .before .before .before .before .before .before .before .before .before .before .before .put-hex2 .ensures)) ⨾
+    c .before .before .before .before .before .before .before .put-caption .ensures ⨾
     c .before .before .put2 .ensures
 
 pub put-row-spec : {M : Type 1} → statement M
 put-row-spec = tie.close
     (tie.spec (λ c κs. search needs) (λ c κs. search needs) (λ c κs. search needs) (λ c. refl) (λ c κs. search needs)
-    (λ c κs. search needs) (λ c κs. search needs) (λ c. refl) (λ c κs. search needs) (λ c. search needs) returns)
+    (λ c κs. search needs) (λ c κs. search needs) (λ c κs. search needs) (λ c. refl) (λ c κs. search needs)
+    (λ c. search needs) returns)

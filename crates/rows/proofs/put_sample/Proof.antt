@@ -5,9 +5,11 @@ use borrow.Author.Needs.{needs}
 use Rattle.rows.proofs.put_sample.Statement.{statement}
 use Rattle.rows.proofs.put_sample.Tie as tie
 
-pub put-sample-spec : {M : Type 1} → statement M
+returns : tie.Need-returns
 unfolding sampleText samplePosition
+returns c = rw (c .before .before .before .before .sample-position .ensures, c .before .before .before .before .before .before .caption-at .ensures) at (c .before .before .put-row .ensures)
+
+pub put-sample-spec : {M : Type 1} → statement M
 put-sample-spec = tie.close
-    (tie.spec (λ c. search needs) (λ c. search needs) (λ c. search needs) (λ c κs. search needs) (λ c. search needs)
-    (λ c. search needs) (λ c κs. search needs) (λ c. search needs)
-    (λ c. rw (c .before .before .before .before .sample-position .ensures) at (c .before .before .put-row .ensures)))
+    (tie.spec (λ c. search needs) (λ c. search needs) (λ c κs. search needs) (λ c. search needs) (λ c κs. search needs)
+    (λ c. search needs) (λ c. search needs) (λ c κs. search needs) (λ c. search needs) returns)
