@@ -44,4 +44,3 @@ captions-rise (AnLfo o) n i j a b h l = le-refl noCaption
 captions-rise (AFilter f) n i j a b h l = le-refl noCaption
 captions-rise (AnOscillator o) n i j a b h l = le-refl noCaption
 captions-rise (ANoise k) n i j a b h l = le-refl noCaption
-

@@ -3,9 +3,9 @@ ghost use Rattle.text.specs.Text.{Puts};
 ghost use Rattle.curve_lines.specs.Lines.{numberLine, foundText, noneText, curveText};
 use curve_finder::CurveAnswer;
 use envelope_settings::sustain_end;
+use nine_places::put_nine_places;
 use numerals::put_decimal;
 use refusals::refusal_number;
-use nine_places::put_nine_places;
 use text::put;
 
 // A number on a line, behind what it is.

@@ -18,10 +18,10 @@ nameWidth k = getD (800 ∷ 800 ∷ 920 ∷ 980 ∷ []) k 0
 unfoldable pub nameText : ℕ → ℕ → ℕ → List ℕ
 nameText k left end = cond (leb (nameWidth k) (end - left)) (wordOf (ascii "Attack|Decay|Sustain|Release") k) (wordOf (ascii "A|D|S|R") k)
 
--- A rule through the frame where the samples start, down to the cell, and the cell, which is open above.
+-- A rule through the frame where the samples start, down to the cell, and on as its left and its lower edge. The right edge is the left one of the next cell; it is open above.
 unfoldable pub outlineText : ℕ → ℕ → ℕ → List ℕ
 outlineText start left end =
-    ascii "<path class='v' d='M" ++ decimalOf start ++ ascii "-2500V20L" ++ decimalOf left ++ ascii " 160V450H" ++ decimalOf end ++ ascii "V160'/>"
+    ascii "<path class='v' d='M" ++ decimalOf start ++ ascii "-2500V20L" ++ decimalOf left ++ ascii " 160V450H" ++ decimalOf end ++ ascii "'/>"
 
 -- The name or the letter, in the middle of the cell.
 unfoldable pub labelText : ℕ → ℕ → ℕ → List ℕ
@@ -35,6 +35,10 @@ cellBetween k start left end = cond (ltb left end) (outlineText start left end +
 unfoldable pub cellText : List ℕ → ℕ → List ℕ
 cellText captions k = cellBetween k (startOf captions k) (leftOf captions k) (leftOf captions (suc k))
 
--- Those of the four segments.
+-- The right edge of the last cell.
+unfoldable pub edgeText : ℕ → List ℕ
+edgeText end = ascii "<path class='v' d='M" ++ decimalOf end ++ ascii " 160V450'/>"
+
+-- The cells of the four segments, side by side.
 unfoldable pub captionsText : List ℕ → List ℕ
-captionsText captions = textsBelow (cellText captions) 4
+captionsText captions = textsBelow (cellText captions) 4 ++ edgeText (leftOf captions 4)

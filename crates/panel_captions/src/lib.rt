@@ -1,7 +1,7 @@
 // The captions below an envelope's frame: a row of cells, one for each segment that has samples.
 ghost use Prim.Native.Nat.{_<_, _≤_};
 ghost use Rattle.text.specs.Text.{Puts};
-ghost use Rattle.panel_captions.specs.Captions.{nameText, outlineText, labelText, cellBetween, captionsText};
+ghost use Rattle.panel_captions.specs.Captions.{nameText, outlineText, labelText, cellBetween, edgeText, captionsText};
 use caption_cells::cell_end;
 use caption_cells::start_of;
 use numerals::put_decimal;
@@ -32,7 +32,7 @@ fn put_outline(out: &mut [u8], at: usize, start: u64, left: u64, end: u64) -> us
     next = put_decimal(out, next, left);
     next = put(out, next, b" 160V450H");
     next = put_decimal(out, next, end);
-    put(out, next, b"V160'/>")
+    put(out, next, b"'/>")
 }
 
 fn put_label(out: &mut [u8], at: usize, k: u8, left: u64, end: u64) -> usize
@@ -58,6 +58,14 @@ fn put_cell(out: &mut [u8], at: usize, k: u8, start: u64, left: u64, end: u64) -
     at
 }
 
+fn put_edge(out: &mut [u8], at: usize, end: u64) -> usize
+    ensures { λ r. ⌜ Puts (now (out .entry)) at (edgeText end) (now (out .exit)) r ⌝ }
+{
+    let mut next = put(out, at, b"<path class='v' d='M");
+    next = put_decimal(out, next, end);
+    put(out, next, b" 160V450'/>")
+}
+
 pub fn put_captions(out: &mut [u8], at: usize, captions: &[u8; SAMPLES]) -> usize
     ensures { λ r. ⌜ Puts (now (out .entry)) at (captionsText (now (captions .entry))) (now (out .exit)) r ⌝ }
 {
@@ -70,5 +78,5 @@ pub fn put_captions(out: &mut [u8], at: usize, captions: &[u8; SAMPLES]) -> usiz
         left = end;
         k += 1;
     }
-    next
+    put_edge(out, next, left)
 }

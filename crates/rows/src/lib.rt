@@ -30,7 +30,12 @@ fn put_decimals(out: &mut [u8], at: usize, x: f32, y: f32) -> usize
 fn put_caption(out: &mut [u8], at: usize, caption: u8) -> usize
     ensures { λ r. ⌜ Puts (now (out .entry)) at (captionText caption) (now (out .exit)) r ⌝ }
 {
-    put_word(out, at, b" Attack| Decay| Sustain| Release|", caption as usize)
+    put_word(
+        out,
+        at,
+        b" Attack| Decay| Sustain| Release|",
+        caption as usize,
+    )
 }
 
 // A sample's position and its height, in decimal and as bits, and its caption.
@@ -62,7 +67,13 @@ fn put_sample(out: &mut [u8], at: usize, heights: &[f32], captions: &[u8], i: us
 {
     let last = (heights.len() - 1) as u16;
     let caption = caption_at(captions, i);
-    put_row(out, at, sample_position(i as u16, last), heights[i], caption)
+    put_row(
+        out,
+        at,
+        sample_position(i as u16, last),
+        heights[i],
+        caption,
+    )
 }
 
 fn put_samples(out: &mut [u8], at: usize, heights: &[f32], captions: &[u8]) -> usize

@@ -4,7 +4,7 @@ use Prim.Native.Nat.{_-_, _*_, _≤_}
 use native.Mathlib.Omega.{arith}
 use lib.ListN.{length}
 use Rattle.text.specs.Text.{Puts, textsBelow}
-use Rattle.text.proofs.Writing.{puts-as, no-text, text-more, all-texts}
+use Rattle.text.proofs.Writing.{_⨾_, puts-as, no-text, text-more}
 use Rattle.caption_cells.specs.Cells.{leftOf}
 use Rattle.panel_captions.specs.Captions.{cellText, captionsText}
 use Rattle.panel_captions.proofs.Cells.{next-left, own-cell}
@@ -26,15 +26,22 @@ loop-holds c = (search needs, search needs, search needs, refl, no-text _)
 loop-again : tie.Need-loop-again Inv-loop μ-loop
 loop-again c =
     let inv = c .before .before .before .before .before .before .before .loop .inv in
-    let end = c .before .before .before .before .before .cell-end .ensures in
-    (search needs, omega (arith, inv .1, end .1), search needs, next-left _ _ (inv .3) (end .0),
-    text-more _ _ (inv .4) (puts-as (own-cell _ _ (inv .3) (end .0) (c .before .before .before .start-of .ensures .0)) (c .before .before .put-cell .ensures)))
+    let end = c .before .before .before .before .before .cell-end .ensures in (
+      search needs,
+      omega (arith, inv .1, end .1),
+      search needs,
+      next-left _ _ (inv .3) (end .0),
+      text-more _ _ (inv .4) (puts-as (own-cell _ _ (inv .3) (end .0) (c .before .before .before .start-of .ensures .0)) (c .before .before .put-cell .ensures)),
+    )
 
 returns : tie.Need-returns Inv-loop μ-loop
 unfolding captionsText
-returns c = all-texts _ _ _ (c .before .loop .inv .0) (c .loop-test .left) (c .before .loop .inv .4)
+returns c =
+    let inv = c .before .before .before .before .before .loop .inv in
+    let e : c .before .before .before .before .before .loop .k ≡ 4 = omega arith in
+    rw e at (inv .4 ⨾ (rw (inv .3) at (c .before .before .put-edge .ensures)))
 
 pub put-captions-spec : {M : Type 1} → statement M
 put-captions-spec =
     tie.close (tie.spec Inv-loop μ-loop loop-holds (λ c κs. search needs) (λ c κs. search needs) (λ c κs. search needs)
-    (λ c. search needs) (λ c. search needs) loop-again (λ c. search needs) returns)
+    (λ c. search needs) (λ c. search needs) loop-again (λ c κs. search needs) (λ c. search needs) returns)
