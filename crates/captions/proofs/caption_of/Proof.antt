@@ -1,4 +1,5 @@
--- `caption_of` is `captionOf` an envelope's marks. Assumes nothing.
+-- `caption_of` is `captionOf` an envelope's marks: the segment at the sample's position.
+-- Assumes nothing.
 use Rattle.marks.specs.Marks.{envelopeMarks}
 use Rattle.captions.proofs.Segments.{by-position}
 use borrow.Author.Needs.{needs}
