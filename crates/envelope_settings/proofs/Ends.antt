@@ -228,6 +228,7 @@ unfolding totalOf
 ends a d r ha hd hr = width-ends (byte-width a ha) (byte-width d hd) (byte-width r hr)
 
 -- ---- A SHARE IS NOTHING where its byte is 0, and at least 2^-10 where it isn't: a byte above 0 is at least 2^-8, and the total is at most 4
+-- 2^-10 and 2^-8
 abbrev least : Float
 least = bits 0x3a80_0000
 

@@ -26,13 +26,13 @@ blank = replicate 501 zero₃₂
 abbrev pub uncaptioned : List ℕ
 uncaptioned = replicate 501 0
 
--- What stands at a curve's marks: the captions, where its samples have them, and otherwise the marks.
-unfoldable pub segmentsText : Marks → List ℕ → List ℕ
-segmentsText marks captions = cond (eqb (getD captions 0 0) noCaption) (marksText marks) (captionsText captions)
+-- What is marked on a curve: the captions, where its samples have any, and otherwise the marks.
+unfoldable pub markedText : Marks → List ℕ → List ℕ
+markedText marks captions = cond (eqb (getD captions 0 0) noCaption) (marksText marks) (captionsText captions)
 
 -- What is drawn of a shape.
 unfoldable pub drawnText : Shape → List ℕ
-drawnText s = subtitleText (scaleOf s) (anchoredOf s) ++ restText (restOf s) ++ segmentsText (marksOf s) (captionsOf s uncaptioned) ++ curveText (stripOf s blank)
+drawnText s = subtitleText (scaleOf s) (anchoredOf s) ++ restText (restOf s) ++ markedText (marksOf s) (captionsOf s uncaptioned) ++ curveText (stripOf s blank)
 
 -- The curve of an older program's shape beneath that of the program's, where it differs.
 unfoldable pub olderText : Shape → Shape → List ℕ

@@ -4,7 +4,7 @@ ghost use lib.ListN.{length};
 ghost use Rattle.text.specs.Text.{Puts};
 ghost use Rattle.code_bytes.specs.Bytes.{blockLength, byteAt};
 ghost use Rattle.code_shapes.specs.Shapes.{shapeOf};
-ghost use Rattle.panel_curves.specs.Curves.{segmentsText, drawnText, olderText};
+ghost use Rattle.panel_curves.specs.Curves.{markedText, drawnText, olderText};
 use builders::of_shape;
 use captions::NO_CAPTION;
 use code_shapes::shape_at;
@@ -15,9 +15,9 @@ use panel_captions::put_captions;
 use panel_line::SAMPLES;
 use panel_marks::put_marks;
 
-// What stands at a curve's marks: the captions, if it has any, or the marks.
-fn put_segments(out: &mut [u8], at: usize, marks: Marks, captions: &[u8; SAMPLES]) -> usize
-    ensures { λ r. ⌜ Puts (now (out .entry)) at (segmentsText marks (now (captions .entry))) (now (out .exit)) r ⌝ }
+// What is marked on a curve: its captions, if it has any, or its marks.
+fn put_marked(out: &mut [u8], at: usize, marks: Marks, captions: &[u8; SAMPLES]) -> usize
+    ensures { λ r. ⌜ Puts (now (out .entry)) at (markedText marks (now (captions .entry))) (now (out .exit)) r ⌝ }
 {
     if captions[0] == NO_CAPTION {
         return put_marks(out, at, marks);
@@ -37,7 +37,7 @@ pub fn put_drawn(out: &mut [u8], at: usize, block: &[u8], code: Code) -> usize
     captions::captions(g, &mut captions);
     let mut next = panel_labels::put_subtitle(out, at, g.scale(), g.anchored());
     next = panel_frame::put_rest(out, next, g.rest());
-    next = put_segments(out, next, g.marks(), &captions);
+    next = put_marked(out, next, g.marks(), &captions);
     panel_line::put_curve(out, next, &heights)
 }
 

@@ -1,3 +1,2 @@
--- An element of a list; a row held against its definition.
-pub mod Elements
+-- A row held against its definition.
 pub mod Examples

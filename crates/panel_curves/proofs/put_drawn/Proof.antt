@@ -21,7 +21,7 @@ returns c =
       c .before .before .before .before .before .before .before .before .before .before .before .before .before .before .before .before .before .before .before .before .before .before .before .before .before .of-shape .ensures,
       c .before .before .before .before .before .before .before .before .before .before .before .before .before .before .before .before .before .before .before .before .before .before .before .before .before .before .shape-at .ensures,
     ) at
-    (c .before .before .before .before .before .before .before .before .before .before .before .before .before .before .before .before .before .before .put-subtitle .ensures ⨾ c .before .before .before .before .before .before .before .before .before .before .before .before .before .put-rest .ensures ⨾ c .before .before .before .before .before .before .before .put-segments .ensures ⨾ c .before .before .put-curve .ensures))
+    (c .before .before .before .before .before .before .before .before .before .before .before .before .before .before .before .before .before .before .put-subtitle .ensures ⨾ c .before .before .before .before .before .before .before .before .before .before .before .before .before .put-rest .ensures ⨾ c .before .before .before .before .before .before .before .put-marked .ensures ⨾ c .before .before .put-curve .ensures))
 
 pub put-drawn-spec : {M : Type 1} → statement M
 put-drawn-spec =

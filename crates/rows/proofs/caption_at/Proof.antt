@@ -1,5 +1,5 @@
 -- `caption_at` is an element, or that there is none. Assumes nothing.
-use Rattle.rows.proofs.Elements.{element-there, element-past}
+use Rattle.lists.proofs.Elements.{element-there, element-past}
 use borrow.Author.Needs.{needs}
 use Rattle.rows.proofs.caption_at.Statement.{statement}
 use Rattle.rows.proofs.caption_at.Tie as tie
