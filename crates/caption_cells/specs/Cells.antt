@@ -5,10 +5,11 @@ use Prim.Native.Nat.{ℕ, zero, suc, _+_, _*_, min, max}
 use lib.Dec.{ltb}
 use lib.ListN.{getD}
 
--- How many of the first n samples are of a segment before k.
+-- 1 for a caption of a segment before k, and 0 for another.
 abbrev pub beforeOf : ℕ → ℕ → ℕ
 beforeOf caption k = cond (ltb caption k) 1 0
 
+-- How many of the first n samples are of a segment before k.
 unfoldable pub samplesBefore : ℕ → List ℕ → ℕ → ℕ
 samplesBefore k captions zero = 0
 samplesBefore k captions (suc n) = samplesBefore k captions n + beforeOf (getD captions n 0) k

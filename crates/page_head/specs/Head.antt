@@ -6,7 +6,7 @@ use Rattle.text.specs.Text.{ascii}
 use Rattle.provenance.specs.Provenance.{nameText, fileText}
 
 -- ---- head
--- The document's start, and the styles of texts (h head, n name, t title, d dial, b its byte, m word of a mark) and of lines (f frame, r rest, v mark, c curve, u older curve, g bar).
+-- The document's start, and the styles of texts (h head, n name, t title, d dial, b its byte, m word of a mark or a caption) and of lines (f frame, r rest, v mark, c curve, u older curve, g bar).
 abbrev pub styleText : List ℕ
 styleText =
     ascii "<svg xmlns='http://www.w3.org/2000/svg' width='297mm' height='210mm' viewBox='0 0 29700 21000'>\n<style>@page{size:A4 landscape;margin:0}text{font:260px Helvetica,Arial,sans-serif}.h{font-size:360px}.n{font-size:560px;font-weight:bold}.t{font-size:360px;font-weight:bold}.d{font-size:280px}.b{font-weight:bold}.m{font-size:240px;text-anchor:middle}path,polyline{fill:none;stroke:#000}.f{stroke-width:15}.r{stroke-width:12;stroke-dasharray:80 60}.v{stroke-width:8}.c{stroke-width:32;stroke-linejoin:round}.u{stroke:#999;stroke-width:70;stroke-linejoin:round}.g{fill:#bbb;stroke-width:20}</style>\n<rect width='29700' height='21000' fill='#fff'/>\n"

@@ -8,6 +8,7 @@ use lib.ListN.{getD}
 use Rattle.text.specs.Text.{ascii, textsBelow}
 use Rattle.numerals.specs.Spelled.{decimalOf}
 use Rattle.words.specs.Words.{wordOf}
+use Rattle.labels.specs.Titles.{segmentName}
 use Rattle.caption_cells.specs.Cells.{startOf, leftOf}
 
 -- The width that the name of segment k needs.
@@ -16,7 +17,7 @@ nameWidth k = getD (800 ∷ 800 ∷ 920 ∷ 980 ∷ []) k 0
 
 -- What stands in the cell of segment k: its name, where that fits between the edges, or its letter.
 unfoldable pub nameText : ℕ → ℕ → ℕ → List ℕ
-nameText k left end = cond (leb (nameWidth k) (end - left)) (wordOf (ascii "Attack|Decay|Sustain|Release") k) (wordOf (ascii "A|D|S|R") k)
+nameText k left end = cond (leb (nameWidth k) (end - left)) (segmentName k) (wordOf (ascii "A|D|S|R") k)
 
 -- A rule through the frame where the samples start, down to the cell, and on as its left and its lower edge. The right edge is the left one of the next cell; it is open above.
 unfoldable pub outlineText : ℕ → ℕ → ℕ → List ℕ

@@ -4,6 +4,7 @@ ghost use Rattle.text.specs.Text.{Puts};
 ghost use Rattle.panel_captions.specs.Captions.{nameText, outlineText, labelText, cellBetween, edgeText, captionsText};
 use caption_cells::cell_end;
 use caption_cells::start_of;
+use labels::put_segment;
 use numerals::put_decimal;
 use panel_line::SAMPLES;
 use text::put;
@@ -18,7 +19,7 @@ fn put_name(out: &mut [u8], at: usize, k: u8, left: u64, end: u64) -> usize
     ensures { λ r. ⌜ Puts (now (out .entry)) at (nameText k left end) (now (out .exit)) r ⌝ }
 {
     if NAMES[k as usize] <= end - left {
-        return put_word(out, at, b"Attack|Decay|Sustain|Release", k as usize);
+        return put_segment(out, at, k);
     }
     put_word(out, at, b"A|D|S|R", k as usize)
 }

@@ -2,13 +2,13 @@
 use mathlib.Core.Bool.{cond}
 use mathlib.Core.List.{List, [], _++_}
 use Prim.Native.Nat.{ℕ}
-use lib.Dec.{leb}
+use lib.Dec.{leb, eqb}
 use lib.ListN.{length, getD}
 use lib.Ieee.{Float, nan, binary32, toBits}
 use Rattle.text.specs.Text.{ascii, textsBelow}
 use Rattle.numerals.specs.Spelled.{hexOf}
 use Rattle.nine_places.specs.Places.{ninePlaces}
-use Rattle.words.specs.Words.{wordOf}
+use Rattle.labels.specs.Titles.{segmentName}
 use Rattle.strip.specs.Strip.{samplePosition}
 use Rattle.captions.specs.Captions.{noCaption}
 
@@ -16,9 +16,9 @@ use Rattle.captions.specs.Captions.{noCaption}
 unfoldable pub decimalsText : Float → Float → List ℕ
 decimalsText x y = ninePlaces x ++ ascii " " ++ ninePlaces y ++ ascii " "
 
--- A caption's segment, after a space; nothing for a number that is none of the four.
-abbrev pub captionText : ℕ → List ℕ
-captionText caption = wordOf (ascii " Attack| Decay| Sustain| Release|") caption
+-- A caption's segment, after a space, if there is one.
+unfoldable pub captionText : ℕ → List ℕ
+captionText caption = cond (eqb caption noCaption) [] (ascii " " ++ segmentName caption)
 
 -- Position and height in nine places, then the bits of both in eight hexadecimal digits, then the caption.
 unfoldable pub rowText : Float → Float → ℕ → List ℕ

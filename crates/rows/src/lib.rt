@@ -7,11 +7,11 @@ ghost use Rattle.captions.specs.Captions.{noCaption};
 ghost use Rattle.rows.specs.Rows.{decimalsText, captionText, rowText, sampleText, someRows, rowsText};
 use captions::NO_CAPTION;
 use float_bits::word_of;
+use labels::put_segment;
 use nine_places::put_nine_places;
 use numerals::put_hex;
 use strip::sample_position;
 use text::put;
-use words::put_word;
 
 // The most samples whose numbers fit 16 bits.
 const MAX_ROWS: usize = 65536;
@@ -26,16 +26,15 @@ fn put_decimals(out: &mut [u8], at: usize, x: f32, y: f32) -> usize
     put(out, next, b" ")
 }
 
-// A caption after a space; nothing for a number that is none.
+// A caption after a space, if there is one.
 fn put_caption(out: &mut [u8], at: usize, caption: u8) -> usize
     ensures { λ r. ⌜ Puts (now (out .entry)) at (captionText caption) (now (out .exit)) r ⌝ }
 {
-    put_word(
-        out,
-        at,
-        b" Attack| Decay| Sustain| Release|",
-        caption as usize,
-    )
+    if caption == NO_CAPTION {
+        return at;
+    }
+    let next = put(out, at, b" ");
+    put_segment(out, next, caption)
 }
 
 // A sample's position and its height, in decimal and as bits, and its caption.

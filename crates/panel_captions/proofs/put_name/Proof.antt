@@ -7,13 +7,13 @@ use Rattle.panel_captions.proofs.put_name.Tie as tie
 
 returns : tie.Need-returns
 unfolding nameText
-returns c = simp (le-leb _ _ (c .before .before .before .before .before .if1 .taken)) (c .before .before .put-word .ensures)
+returns c = simp (le-leb _ _ (c .before .before .before .before .if1 .taken)) (c .before .before .put-segment .ensures)
 
 returns-2 : tie.Need-returns-2
 unfolding nameText
-returns-2 c = simp (lt-leb _ _ (c .before .before .before .before .before .if1 .left)) (c .before .before .put-word2 .ensures)
+returns-2 c = simp (lt-leb _ _ (c .before .before .before .before .before .if1 .left)) (c .before .before .put-word .ensures)
 
 pub put-name-spec : {M : Type 1} → statement M
 put-name-spec =
-    tie.close (tie.spec (λ c. search needs) (λ c. search needs) (λ c. search needs) (λ c. search needs) (λ c κs. search needs)
-    (λ c. search needs) returns (λ c. search needs) (λ c κs. search needs) (λ c. search needs) returns-2)
+    tie.close (tie.spec (λ c. search needs) (λ c. search needs) (λ c. search needs) (λ c κs. search needs) (λ c. search needs)
+    returns (λ c. search needs) (λ c κs. search needs) (λ c. search needs) returns-2)
