@@ -1,6 +1,6 @@
 -- WHICH CAPTIONS CHANGED when C1 came to stand alone: sample 0 of an envelope without attack, and no other, for all bytes and lengths. A segment starts at 0 where all bytes before it are 0; the
 -- release never does. Assumes nothing.
-use mathlib.Core.Path.{_≡_, refl, _∙_}
+use mathlib.Core.Path.{_≡_, refl}
 use mathlib.Core.Bool.{Bool, true, false, cond, _&&_}
 use Prim.Native.Nat.{ℕ, zero, suc, _≤_, _<_}
 use lib.Dec.{eqb, eqb·suc-zero}
