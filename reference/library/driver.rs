@@ -303,16 +303,18 @@ impl Work<'_> {
                 .last()
                 .expect("the attack starts at 0")
         };
-        // The rule before had sample 0 of an envelope as the attack. What has changed since is that sample where the attack's byte is 0.
-        let former = |i: usize| if code < 3 && i == 0 { 0 } else { by_marks(i) };
-        let by_list = |i: usize| match READ[code] {
-            &[attack, decay, ..] if code < 3 && i == 0 && program.0[attack] == 0 => 1 + u8::from(program.0[decay] == 0),
-            _ => former(i),
-        };
         let mut changed = 0;
         for (i, &caption) in lent.first(n).iter().enumerate() {
-            changed += usize::from(caption != former(i));
-            for (what, expected) in [("its marks", by_marks(i)), ("the list of changes", by_list(i))] {
+            let marked = by_marks(i);
+            // The rule before had sample 0 of an envelope as the attack. What has changed since is that sample where the attack's byte is 0.
+            let start = code < 3 && i == 0;
+            let former = if start { 0 } else { marked };
+            let listed = match READ[code] {
+                &[attack, decay, ..] if start && program.0[attack] == 0 => 1 + u8::from(program.0[decay] == 0),
+                _ => former,
+            };
+            changed += usize::from(caption != former);
+            for (what, expected) in [("its marks", marked), ("the list of changes", listed)] {
                 if caption != expected {
                     self.differ(|| {
                         let input = shown(code, program);
