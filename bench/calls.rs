@@ -25,3 +25,6 @@ pub type Strip = unsafe extern "C" fn(*const u8, usize, u32, *mut f32, usize) ->
 
 /// The taps' positions, their heights, how many are used, position.
 pub type TapsHeight = unsafe extern "C" fn(*const f32, *const f32, u32, f32) -> Answer;
+
+/// Block, its length, code, the settings. The reference's settings are private: it builds its generator, and writes nothing.
+pub type Settings = unsafe extern "C" fn(*const u8, usize, u32, *mut f32) -> StripAnswer;

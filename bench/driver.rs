@@ -10,11 +10,11 @@
 mod calls;
 mod report;
 
-use crate::answers::{Taps, block};
-use crate::juvrada::BLOCK;
+use crate::answers::{READ, Taps, block};
+use crate::juvrada::{BLOCK, MAX_SETTINGS};
 use crate::random::Random;
 use crate::stand_in::Program;
-use calls::{Answer, Height, Steps, Strip, StripAnswer, TapsHeight};
+use calls::{Answer, Height, Settings, Steps, Strip, StripAnswer, TapsHeight};
 use std::arch::asm;
 use std::ffi::CString;
 use std::hint::black_box;
@@ -36,8 +36,11 @@ const LONGEST: Duration = Duration::from_secs(40);
 
 const LENGTHS: [usize; 4] = [2, 64, 512, 4096];
 
-/// The positions of the single heights.
+/// The positions of the single heights, and the curve bytes of the settings.
 const SINGLE: usize = 256;
+
+/// The envelopes are codes 0 to 2.
+const ENVELOPES: usize = 3;
 
 const CODES: [&str; 14] = [
     "VCA envelope",
@@ -72,6 +75,9 @@ const SLEW: u8 = 128;
 /// What a row of the one walk has in its name beyond that of the plain engine.
 pub const ONE_WALK: &str = ", one walk";
 
+/// What a row of settings has in its name beyond that of the curve.
+pub const SETTINGS: &str = ", settings";
+
 /// What fills a strip. Where an LFO is slewed, the plain engine walks to every sample from the start, the other along the strip once.
 #[derive(Clone, Copy, PartialEq)]
 enum Engine {
@@ -94,17 +100,25 @@ struct Side {
     height: [Height; 14],
     strip: [Strip; 14],
     strip_once: [Strip; 14],
+    settings: [Settings; ENVELOPES],
     taps_height: TapsHeight,
 }
 
 impl Side {
     /// A side with one strip, which stands in for that of the one walk too.
-    fn new(name: &'static str, height: [Height; 14], strip: [Strip; 14], taps_height: TapsHeight) -> Self {
+    fn new(
+        name: &'static str,
+        height: [Height; 14],
+        strip: [Strip; 14],
+        settings: [Settings; ENVELOPES],
+        taps_height: TapsHeight,
+    ) -> Self {
         Self {
             name,
             height,
             strip,
             strip_once: strip,
+            settings,
             taps_height,
         }
     }
@@ -135,6 +149,7 @@ macro_rules! side {
             $name,
             [function!(Height, $name, "_height"); 14],
             [function!(Strip, $name, "_strip"); 14],
+            [function!(Settings, $name, "_settings"); ENVELOPES],
             function!(TapsHeight, $name, "_taps_height"),
         )
     };
@@ -143,6 +158,11 @@ macro_rules! side {
             $name,
             [$(function!(Height, $name, "_", $code, "_height")),*],
             [$(function!(Strip, $name, "_", $code, "_strip")),*],
+            [
+                function!(Settings, $name, "_", 0, "_settings"),
+                function!(Settings, $name, "_", 1, "_settings"),
+                function!(Settings, $name, "_", 2, "_settings"),
+            ],
             function!(TapsHeight, $name, "_taps_height"),
         )
     };
@@ -174,6 +194,9 @@ fn sides() -> Vec<Side> {
 
 const NOTHING: &str = "nothing";
 
+/// The sides that are libraries.
+const LIBRARIES: [&str; 2] = ["juvrada", "before"];
+
 /// A side of one instruction, the return: its count is that of the driver's own loop.
 fn nothing() -> Side {
     extern "C" fn height(_: *const u8, _: usize, _: u32, height: f32) -> Answer {
@@ -188,7 +211,17 @@ fn nothing() -> Side {
         let steps = Steps::uninit();
         Answer { steps, height }
     }
-    Side::new(NOTHING, [height; 14], [strip; 14], taps_height)
+    extern "C" fn settings(_: *const u8, _: usize, _: u32, _: *mut f32) -> StripAnswer {
+        let steps = Steps::uninit();
+        StripAnswer { steps }
+    }
+    Side::new(
+        NOTHING,
+        [height; 14],
+        [strip; 14],
+        [settings; ENVELOPES],
+        taps_height,
+    )
 }
 
 /// What all sides read and write, at the same addresses.
@@ -204,6 +237,7 @@ struct Data {
 enum Work {
     Heights { code: usize },
     Strip { engine: Engine, code: usize, n: usize },
+    Settings { code: usize },
     Taps,
 }
 
@@ -235,6 +269,19 @@ fn strips(strip: Strip, program: &Program, code: u32, out: &mut [f32], times: u3
     last
 }
 
+/// Each call has another byte for the curves.
+#[inline(never)]
+fn settings(settings: Settings, program: &mut Program, code: u32, out: &mut [f32], times: u32) {
+    fill_stack();
+    let curves = &READ[code as usize][4..];
+    for _ in 0..times {
+        for (curve, out) in (0..=u8::MAX).zip(out.chunks_exact_mut(MAX_SETTINGS)) {
+            curves.iter().for_each(|&at| program.0[at] = curve);
+            unsafe { settings(program.0.as_ptr(), BLOCK, code, out.as_mut_ptr()) };
+        }
+    }
+}
+
 #[inline(never)]
 fn trains(height: TapsHeight, taps: &Taps, positions: &[f32], out: &mut [f32], times: u32) {
     fill_stack();
@@ -246,7 +293,7 @@ fn trains(height: TapsHeight, taps: &Taps, positions: &[f32], out: &mut [f32], t
 }
 
 impl Work {
-    /// The length of the strip; 1 of the single heights.
+    /// The length of the strip; 1 of the single heights and of the settings.
     fn length(self) -> usize {
         match self {
             Work::Strip { n, .. } => n,
@@ -262,12 +309,16 @@ impl Work {
         }
     }
 
-    fn samples(self) -> usize {
-        self.length() * self.calls()
+    /// The numbers that doing it once writes.
+    fn written(self) -> usize {
+        match self {
+            Work::Settings { .. } => MAX_SETTINGS * self.calls(),
+            _ => self.length() * self.calls(),
+        }
     }
 
     fn perform(self, side: &Side, data: &mut Data, times: u32) {
-        let out = &mut data.out[..self.samples()];
+        let out = &mut data.out[..self.written()];
         match self {
             Work::Heights { code } => heights(
                 side.height[code],
@@ -280,13 +331,18 @@ impl Work {
             Work::Strip { engine, code, .. } => {
                 drop(strips(side.strip(engine, code), &data.program, code as u32, out, times))
             }
+            Work::Settings { code } => settings(side.settings[code], &mut data.program, code as u32, out, times),
             Work::Taps => trains(side.taps_height, &data.taps, &data.positions, out, times),
         }
     }
 
-    /// What the sides computed must agree, or the figures say nothing. `first` is what the first of them computed.
+    /// What the sides computed must agree, or the figures say nothing. `first` is what the first of them computed. Of the settings the reference writes none; those
+    /// of the libraries are held to each other.
     fn check(self, row: &str, side: &Side, data: &mut Data, first: &mut Option<Vec<u32>>) {
-        let out = &mut data.out[..self.samples()];
+        let out = &mut data.out[..self.written()];
+        if matches!(self, Work::Settings { .. }) && !LIBRARIES.contains(&side.name) {
+            return;
+        }
         let bits: Vec<u32> = out.iter().map(|height| height.to_bits()).collect();
         out.fill(f32::NAN);
         let (side, n) = (side.name, self.length());
@@ -347,6 +403,9 @@ fn figures(mut each: impl FnMut(&str, Work, &mut Data)) {
             data.program.0[6] = slew;
             row(format!("3: LFO 1, {name}, slew {slew}"), engine, 3, &mut data);
         }
+    }
+    for (code, name) in CODES.iter().enumerate().take(ENVELOPES) {
+        each(&format!("{code}: {name}{SETTINGS}"), Work::Settings { code }, &mut data);
     }
     for used in [1, 4] {
         data.taps.used = used;

@@ -1,6 +1,6 @@
 //! The tables of what `time` and `count` left.
 
-use super::{ONE_WALK, is_occupied};
+use super::{ONE_WALK, SETTINGS, is_occupied};
 use std::collections::HashMap;
 
 const OURS: &str = "juvrada";
@@ -15,7 +15,7 @@ const KNOWN: &[&str] = &["known2", "known3"];
 /// Our plain engine, beside our one walk.
 const PLAIN: &str = "plain";
 
-/// A row's single height, of which the length is 1, or one of its strips: each side's numbers, one for each layout.
+/// A row's single height, of which the length is 1, its settings, which have that length too, or one of its strips: each side's numbers, one for each layout.
 #[derive(Default)]
 struct Figure {
     row: String,
@@ -28,6 +28,7 @@ struct Figure {
 impl Figure {
     fn name(&self) -> String {
         match self.length {
+            1 if self.row.ends_with(SETTINGS) => self.row.clone(),
             1 => format!("{}, one height", self.row),
             n => format!("{}, strip of {n}", self.row),
         }

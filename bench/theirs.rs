@@ -1,5 +1,5 @@
 //! The reference as objects, so that the driver can look into it no more than into the library. For a single height it reads the block; for
-//! a strip it builds its generator once and samples it at the strip's positions. `run` compiles this file in three forms, since the rest of
+//! a strip it builds its generator once and samples it at the strip's positions; for the settings it builds its generator. `run` compiles this file in three forms, since the rest of
 //! an object decides what the compiler makes of `Generator::at`:
 //!   called     one object for all functions: they share `at` and call it, as the users of another crate do
 //!   inlined    an object for each function: `at` has one caller and is inlined
@@ -48,6 +48,14 @@ unsafe extern "C" fn strip(block: *const u8, _: usize, code: u32, out: *mut f32,
     for (i, sample) in out.iter_mut().enumerate() {
         *sample = generator.at(i as f32 / last);
     }
+    let steps = Steps::uninit();
+    StripAnswer { steps }
+}
+
+#[cfg(settings)]
+#[unsafe(export_name = concat!(env!("BENCH_SIDE"), "_settings"))]
+unsafe extern "C" fn settings(block: *const u8, _: usize, code: u32, _: *mut f32) -> StripAnswer {
+    std::hint::black_box(&generator(block, code));
     let steps = Steps::uninit();
     StripAnswer { steps }
 }

@@ -1,8 +1,8 @@
 /*
  * Juvrada: the curves of a DeepMind 12 program, for a printer of sheets. Link target/staticlib/libjuvrada.a (x86-64).
  *
- * A block is the program's 242 bytes; parameter n is byte n. Every function but the taps' and juvrada_curve_for_end takes it as a pointer and a
- * length, and all but the gates and the bars a code:
+ * A block is the program's 242 bytes; parameter n is byte n. Every function but the taps', juvrada_curve_for_end and juvrada_bend takes it as a
+ * pointer and a length, and all but the gates and the bars a code:
  *
  *   0, 1, 2   VCA, VCF, Mod envelope          9         low-pass filter
  *   3, 4      LFO 1, 2                        10        high-pass filter
@@ -177,6 +177,13 @@ juvrada_count_result juvrada_bars(const uint8_t *block, size_t block_len, float 
  * the byte and `tried` one more than it; or it is 0, where no byte will do, with byte 0 and `tried` 256. A wanted level of -0 is 0.
  */
 juvrada_curve_result juvrada_curve_for_end(uint8_t sustain, float wanted);
+
+/*
+ * The bend of a curve byte, from a chart: what an envelope has for the curve of its attack, decay or release, bit for bit. It is near 2 to the power
+ * (curve - 128) / 64, and differs from that by at most one part in 1,048,576 of it. Every byte has one, from 1/4 at 0 to just below 4 at 255; it is never
+ * refused.
+ */
+float juvrada_bend(uint8_t curve);
 
 /*
  * A delay's taps, as an impulse train: where each falls, how tall it is, and how many of the four are used, a number above 4 being 4. Any floats

@@ -99,6 +99,7 @@ unsafe extern "C" {
     pub fn juvrada_gates(block: *const u8, block_len: usize, start: *mut f32, end: *mut f32) -> CountResult;
     pub fn juvrada_bars(block: *const u8, block_len: usize, start: *mut f32, end: *mut f32) -> CountResult;
     pub fn juvrada_curve_for_end(sustain: u8, wanted: f32) -> CurveResult;
+    pub fn juvrada_bend(curve: u8) -> f32;
     pub fn juvrada_taps_height(at: *const f32, tall: *const f32, used: u32, t: f32) -> HeightResult;
     pub fn juvrada_taps_marks(
         at: *const f32,

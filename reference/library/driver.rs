@@ -64,7 +64,7 @@ impl<T: Entry> Lent<T> {
 
 // ---- counts
 
-const COUNTED: usize = 17;
+const COUNTED: usize = 18;
 
 /// How many of each were compared.
 #[derive(Clone, Copy)]
@@ -85,6 +85,7 @@ enum Counted {
     TapMarks,
     Curves,
     NoCurves,
+    Bends,
     Refusals,
 }
 
@@ -391,6 +392,19 @@ impl Work<'_> {
         self.count(counted, 1);
     }
 
+    /// The bend of a curve byte is what the reference stores for the curve of each segment that bends.
+    fn bend(&mut self, curve: u8) {
+        let ours = unsafe { juvrada::juvrada_bend(curve) };
+        for (column, setting) in [(4, 5), (5, 6), (7, 7)] {
+            let program = block(&mut self.random, &READ[0][column..=column], &[curve]);
+            let theirs = stored(&program, setting);
+            if ours.to_bits() != theirs.to_bits() {
+                self.differ(|| format!("bend of {curve}: {ours}, the reference has {theirs}"));
+            }
+            self.count(Counted::Bends, 1);
+        }
+    }
+
     /// Every function that looks at the block, with input that is refused: the refusal, zeros beside it, and everything lent as it was.
     fn refused(&mut self, bytes: &[u8], code: u32, n: usize) {
         let (at, len) = (bytes.as_ptr(), bytes.len());
@@ -503,12 +517,17 @@ fn ends(sustain: u8) -> Vec<f32> {
         let mut program = Program([0; BLOCK]);
         program.0[READ[0][2]] = sustain;
         program.0[READ[0][6]] = curve;
-        match answers::settings(0, &build(0, &program))[4] {
-            Setting::Float(x) => x,
-            Setting::Number(_) => unreachable!("an end is a float"),
-        }
+        stored(&program, 4)
     };
     (0..=255).map(end).collect()
+}
+
+/// A setting that the reference stores for the VCA envelope, by its place among them.
+fn stored(program: &Program, at: usize) -> f32 {
+    match answers::settings(0, &build(0, program))[at] {
+        Setting::Float(x) => x,
+        Setting::Number(_) => unreachable!("an envelope's settings are floats"),
+    }
 }
 
 /// Where sample i of n lies.
@@ -788,6 +807,7 @@ fn jobs() -> Vec<Job> {
     for sustain in 0..=255 {
         all.push(Box::new(move |work| wanted(work, sustain)));
     }
+    all.push(Box::new(|work| (0..=255).for_each(|curve| work.bend(curve))));
     for code in [0, 1, 2] {
         for attack in [0, 1, 255] {
             all.push(Box::new(move |work| starts(work, code, attack)));
@@ -848,7 +868,7 @@ pub fn run() {
         taken.store(jobs.len(), Relaxed);
     });
     let of = |what: Counted| grouped(shared.counts[what as usize].load(Relaxed));
-    use Counted::{Bars, Captioned, Captions, Changed, Curves, Gates, Heights, Marks, NoCurves, Others, Refusals, Samples};
+    use Counted::{Bars, Bends, Captioned, Captions, Changed, Curves, Gates, Heights, Marks, NoCurves, Others, Refusals, Samples};
     use Counted::{Settings, Slewed, Strips, TapHeights, TapMarks};
     println!("heights {}, of them slewed {}", of(Heights), of(Slewed));
     println!(
@@ -872,7 +892,7 @@ pub fn run() {
         of(TapHeights),
         of(TapMarks)
     );
-    println!("curve bytes {}, none {}", of(Curves), of(NoCurves));
+    println!("curve bytes {}, none {}, bends {}", of(Curves), of(NoCurves), of(Bends));
     println!("refusals {}", of(Refusals));
     let different = shared.different.load(Relaxed);
     println!(

@@ -17,12 +17,13 @@ parameters: text
 compare: text
 heights: text
 curve_search: text
+chart: text
 floor_working: text
 checklist: lists
 juvrada: lists
 alone:
 END
-for crate in lists text page sheet parameters compare heights curve_search floor_working checklist juvrada alone; do
+for crate in lists text page sheet parameters compare heights curve_search chart floor_working checklist juvrada alone; do
   mkdir -p "$checkout/crates/$crate/src" "$checkout/crates/$crate/must-fail"
   echo "$crate" >"$checkout/crates/$crate/src/lib.rt"
 done
@@ -57,7 +58,7 @@ case $* in
 'check sheet') crates='lists text page sheet' ;;
 'check parameters') crates='lists text parameters' ;;
 'check compare') crates='lists text compare' ;;
-check) crates='alone lists checklist juvrada text compare heights curve_search floor_working parameters page sheet' ;;
+check) crates='alone lists checklist juvrada text compare heights curve_search chart floor_working parameters page sheet' ;;
 'staticlib juvrada') cp "$stand/version" target/staticlib/libjuvrada.a; exit ;;
 *) exit 3 ;;
 esac
@@ -65,7 +66,7 @@ for crate in $crates; do
   echo "a line of the prover"
   case $crate in lists) echo "rt: lists proved (unchanged since it was last proved)" ;; *) echo "rt: $crate proved (2 s)" ;; esac
   case $crate in
-  sheet | parameters | compare | heights | curve_search | floor_working | checklist)
+  sheet | parameters | compare | heights | curve_search | chart | floor_working | checklist)
     [ -e "target/stamp/$crate" ] && [ "$(cat "target/stamp/$crate")" = "$(cat crates/*/src/lib.rt)" ] || cp "$real/bin/$crate" target/bin/
     cat crates/*/src/lib.rt >"target/stamp/$crate"
     ;;

@@ -15,6 +15,8 @@ same compare-different 1 "$juvrada" compare example - <changed
 # without a block it is the empty program, whatever is on standard input
 same sheet-empty 0 "$juvrada" sheet <example
 same parameters-empty 0 "$juvrada" parameters <example
+same chart 0 "$juvrada" chart <example
+same chart 0 "$juvrada" chart <&-
 refused "standard input: 241 bytes; $block" "$juvrada" sheet - <short
 refused "standard input: more than 242 bytes; $block" "$juvrada" sheet - < <(cat long long)
 # closed, under each shell that sh may be: what they open takes the place of a closed stream in different ways
@@ -49,6 +51,7 @@ unwritable "$juvrada" compare example example
 unwritable "$juvrada" compare -q example example
 unwritable "$juvrada" compare --svg example changed
 unwritable "$juvrada" heights example 3
+unwritable "$juvrada" chart
 unwritable "$juvrada" floor 0x1
 unwritable "$juvrada" check
 unwritable "$juvrada" --help
@@ -120,6 +123,8 @@ run "$juvrada" -o page.svg sheet
 expect "sheet -o replaces a page" eval '[ "$got" -eq 0 ] && cmp -s page.svg "$here/expected/sheet-empty.out"'
 run "$juvrada" parameters example -o page.svg
 expect "parameters -o replaces a page" eval '[ "$got" -eq 0 ] && [ ! -s out ] && cmp -s page.svg "$here/expected/parameters-example.out"'
+run "$juvrada" chart -o page.svg
+expect "chart -o replaces a page" eval '[ "$got" -eq 0 ] && [ ! -s out ] && cmp -s page.svg "$here/expected/chart.out"'
 run "$juvrada" compare -o page.svg example --svg changed
 expect "compare --svg -o" eval '[ "$got" -eq 1 ] && cmp -s page.svg "$here/expected/compare-over.out"'
 (umask 022 && "$juvrada" sheet -o open.svg && umask 077 && "$juvrada" sheet -o closed.svg)
@@ -144,6 +149,8 @@ refused "example: one of the inputs; $file" "$juvrada" sheet -o example - <examp
 refused "full: 242 bytes, as a block has; remove it if it is none" "$juvrada" sheet -o full example
 refused "full: 242 bytes, as a block has; remove it if it is none" "$juvrada" parameters -o full example
 refused "example: one of the inputs; $file" "$juvrada" parameters -o example example
+refused "full: 242 bytes, as a block has; remove it if it is none" "$juvrada" chart -o full
+refused "folder: a folder; $file" "$juvrada" chart -o folder
 expect "a block is written over" eval 'cmp -s example kept && cmp -s full "$here/blocks/full"'
 # through a link the file that it names is written, and the link stays
 ln -s folder/linked.svg link.svg

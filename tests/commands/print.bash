@@ -13,5 +13,5 @@ else
     rm -f page.svg page.pdf
   }
   for page in sheet-empty sheet-example sheet-full compare-over; do printed "$page" 15; done
-  for page in parameters-empty parameters-example parameters-full; do printed "$page" 0; done
+  for page in parameters-empty parameters-example parameters-full chart; do printed "$page" 0; done
 fi

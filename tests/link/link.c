@@ -188,6 +188,21 @@ static void curves(void) {
     }
 }
 
+static void bends(void) {
+    EXPECT(juvrada_bend(0) == 0.25f && juvrada_bend(64) == 0.5f && juvrada_bend(128) == 1.0f && juvrada_bend(192) == 2.0f);
+    /* Those that an envelope has for the curves of its attack, decay and release. */
+    float out[JUVRADA_MAX_SETTINGS];
+    for (unsigned c = 0; c < 256; c++) {
+        block[58] = block[61] = c;
+        block[59] = 255 - c;
+        juvrada_count_result r = juvrada_settings(block, sizeof block, 0, out);
+        EXPECT(r.refusal == JUVRADA_ACCEPTED && r.count == 8);
+        EXPECT(out[5] == juvrada_bend(c) && out[6] == juvrada_bend(255 - c) && out[7] == juvrada_bend(c));
+        EXPECT(c < 64 || juvrada_bend(c) == 2.0f * juvrada_bend(c - 64));
+    }
+    block[58] = block[59] = block[61] = 0;
+}
+
 static void taps(void) {
     static const float at[JUVRADA_TAPS] = {0.5f, 0.25f, 0.0f, 0.0f}, tall[JUVRADA_TAPS] = {0.75f, 0.5f, 1.0f, 1.0f};
     float mark_at[JUVRADA_MAX_MARKS] = {9.0f, 9.0f, 9.0f, 9.0f, 9.0f, 9.0f};
@@ -212,6 +227,7 @@ int main(void) {
     gates(juvrada_gates);
     gates(juvrada_bars);
     curves();
+    bends();
     taps();
     return failures != 0;
 }

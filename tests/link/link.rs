@@ -99,6 +99,10 @@ fn main() {
         assert_eq!(curve(128, wanted), (BAD_LEVEL, 0, 0, 0));
     }
 
+    let bend = |curve: u8| unsafe { juvrada_bend(curve) };
+    assert_eq!([0, 64, 128, 192].map(bend), [0.25, 0.5, 1.0, 2.0]);
+    assert_eq!([1, 127, 255].map(|curve| bend(curve).to_bits()), [0x3e81_64d2, 0x3f7d_3e0b, 0x407d_3e0b]);
+
     let (taps, tall) = ([0.5, f32::NAN, 0.0, 0.0], [0.75, 1.0, 1.0, 1.0]);
     let r = unsafe { juvrada_taps_height(taps.as_ptr(), tall.as_ptr(), 2, 0.5) };
     assert_eq!((r.refusal, r.steps, r.height), (ACCEPTED, 0, 0.75));

@@ -15,7 +15,8 @@ use Rattle.lists.proofs.Rows.{allPass}
 use Rattle.curve.specs.declared.Height.{Height}
 use Rattle.curve.specs.Curve.{positionOf, drawnOf}
 use Rattle.settings.specs.Settings.{byteOf, lfoShapeOf, turnsOf, lfoOf, fadeOf, depthOf, widthOf, sweepOf, oscillatorOneOf, oscillatorTwoOf}
-use Rattle.envelope_settings.specs.Formula.{totalOf, firstOf, secondOf, thirdOf, slopeOf, sloped, sustainEndOf, bendOf, envelopeOf}
+use Rattle.bends.specs.Formula.{bendOf}
+use Rattle.envelope_settings.specs.Formula.{totalOf, firstOf, secondOf, thirdOf, slopeOf, sloped, sustainEndOf, envelopeOf}
 use Rattle.envelope.specs.Formula.{divideOf, denominatorOf, bentUnit, bentOf, attackOf, decayOf, sustainOf, releaseOf, envelopeLevelOf, envelopeHeightOf}
 use Rattle.fade.specs.Formula.{fadeLevelOf, fadeHeightOf}
 use Rattle.oscillator.specs.Formula.{sawOf, pulseOf, addedOf, sumOf, wavesOf, oscillatorLevelOf, oscillatorHeightOf}

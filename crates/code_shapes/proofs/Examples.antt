@@ -16,7 +16,8 @@ use Rattle.settings.specs.declared.LfoShape.the-variants.{Sine, Triangle, Squar
 use Rattle.settings.specs.declared.Pass.{Pass}
 use Rattle.settings.specs.declared.Pass.the-variants.{Low, High}
 use Rattle.settings.specs.Settings.{byteOf, lfoOf, fadeOf, poleSlopeOf, lowPassOf, highPassOf, depthOf, widthOf, sweepOf, oscillatorOneOf, oscillatorTwoOf, noiseOf}
-use Rattle.envelope_settings.specs.Formula.{totalOf, firstOf, secondOf, thirdOf, slopeOf, sloped, sustainEndOf, bendOf, envelopeOf}
+use Rattle.bends.specs.Formula.{bendOf}
+use Rattle.envelope_settings.specs.Formula.{totalOf, firstOf, secondOf, thirdOf, slopeOf, sloped, sustainEndOf, envelopeOf}
 use Rattle.settings.specs.Settings as shape
 use Rattle.generator.specs.declared.Shape.{Shape}
 use Rattle.generator.specs.declared.Shape.the-variants.{Envelope as AnEnvelope, Fade as AFade, Lfo as AnLfo, Filter as AFilter, Oscillator as AnOscillator, Noise as ANoise}

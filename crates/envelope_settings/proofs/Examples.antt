@@ -13,24 +13,12 @@ use Rattle.floor.specs.Formula.{floorOf, fractOf}
 use Rattle.exp2.specs.Formula.{exp2Scale, exp2Coefficients, exp2Within, exp2Of}
 use Rattle.lists.proofs.Rows.{allPass}
 use Rattle.settings.specs.Settings.{byteOf}
-use Rattle.envelope_settings.specs.Formula.{totalOf, firstOf, secondOf, thirdOf, slopeOf, sloped, sustainEndOf, bendOf, envelopeOf}
+use Rattle.bends.specs.Formula.{bendOf}
+use Rattle.envelope_settings.specs.Formula.{totalOf, firstOf, secondOf, thirdOf, slopeOf, sloped, sustainEndOf, envelopeOf}
 
 -- the float has these bits
 is : Float → ℕ → Bool
 is x b = eqb (toBits binary32 x) b
-
--- ---- a bend
-bendRows : List (ℕ × ℕ)
-bendRows =
-    (0, 0x3e80_0000) ∷ (1, 0x3e81_64d2) ∷ (64, 0x3f00_0000) ∷ (127, 0x3f7d_3e0b) ∷ (128, 0x3f80_0000) ∷ (129, 0x3f81_64d2) ∷ (192, 0x4000_0000)
-    ∷ (254, 0x407a_83b2) ∷ (255, 0x407d_3e0b) ∷ []
-
-bendRow : ℕ × ℕ → Bool
-bendRow r = is (bendOf (r .0)) (r .1)
-
-bend-agrees : T (allPass bendRow bendRows)
-unfolding allPass bendRow bendRows is toBits ofBits ofInt bendOf exp2Of exp2Within exp2Coefficients clampOf lt horner fractOf floorOf exp2Scale value add sub mul div
-bend-agrees = tt
 
 -- ---- an envelope's ends, by attack, decay and release: with no release the third is 1, just below 1 (255 and 254) or just above it (255 and 193)
 endsRows : List (ℕ × ℕ × ℕ × ℕ × ℕ × ℕ)

@@ -2,10 +2,9 @@
 -- A byte is a natural number below 256. Definitions only.
 use mathlib.Core.Bool.{cond}
 use Prim.Native.Nat.{ℕ}
-use lib.IntN.{pos}
-use lib.Ieee.{Float, binary32, ofInt, lt}
+use lib.Ieee.{Float, lt}
 use Rattle.exact.specs.Binary32.{_⊕_, _⊖_, _⊗_, _⊘_, bits, zero₃₂, half₃₂, one₃₂}
-use Rattle.exp2.specs.Formula.{exp2Of}
+use Rattle.bends.specs.Formula.{bendOf}
 use Rattle.settings.specs.declared.Envelope.{Envelope}
 use Rattle.settings.specs.Settings.{byteOf}
 
@@ -32,10 +31,6 @@ sloped s k = cond (lt k zero₃₂) (s ⊗ (one₃₂ ⊕ k)) (s ⊕ (one₃₂ 
 
 unfoldable pub sustainEndOf : ℕ → ℕ → Float
 sustainEndOf s c = sloped (byteOf s) (slopeOf c)
-
--- 2 ^ ((c - 128) / 64)
-unfoldable pub bendOf : ℕ → Float
-bendOf c = exp2Of ((ofInt binary32 (pos c) ⊖ bits 0x4300_0000) ⊘ bits 0x4280_0000)
 
 -- Attack, decay, sustain, release, then their four curves.
 unfoldable pub envelopeOf : ℕ → ℕ → ℕ → ℕ → ℕ → ℕ → ℕ → ℕ → Envelope

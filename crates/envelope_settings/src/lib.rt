@@ -1,16 +1,10 @@
 // The settings that a program's bytes give an envelope.
 ghost use mathlib.Core.Path.{_≡_};
-ghost use Rattle.envelope_settings.specs.Formula.{bendOf, sustainEndOf, envelopeOf};
-use exp2::exp2;
+ghost use Rattle.envelope_settings.specs.Formula.{sustainEndOf, envelopeOf};
+use bends::bend;
 use settings::Envelope;
 use settings::HOLD_WIDTH;
 use settings::byte;
-
-pub fn bend(curve: u8) -> f32
-    ensures { λ r. ⌜ r ≡ bendOf curve ⌝ }
-{
-    exp2((curve as f32 - 128.0) / 64.0)
-}
 
 // The level that the sustain ends at: toward 0 below the curve's middle, toward 1 above it.
 pub fn sustain_end(sustain: u8, curve: u8) -> f32

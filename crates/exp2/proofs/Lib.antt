@@ -4,7 +4,6 @@ pub mod Scale
 -- the theorems
 pub mod Every
 pub mod Exp2Error
-pub mod Bend
 pub mod Exp2Slope
 pub mod ExactExp2
 -- the definitions against outside numbers

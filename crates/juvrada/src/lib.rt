@@ -1,6 +1,7 @@
 // The C interface, include/juvrada.h, for callers in another language. A slice is a pointer and a length, an answer a struct of numbers. Each function calls the one of its
 // name that makes those numbers.
 ghost use mathlib.Core.Path.{_≡_};
+ghost use Rattle.bends.specs.Formula.{Charted};
 ghost use Rattle.taps.specs.Promises.{TapsAnswered};
 ghost use Rattle.refusals.specs.Refusals.{answerRefusal};
 ghost use Rattle.block.specs.Promises.{HeightAnswered};
@@ -135,6 +136,13 @@ pub extern "C" fn juvrada_curve_for_end(sustain: u8, wanted: f32) -> CurveResult
     ensures { λ r. ⌜ Returned (λ a. r ≡ curveResult a) (CurveAnswered sustain wanted) ⌝ }
 {
     c_curve::curve_for_end(sustain, wanted)
+}
+
+#[no_mangle]
+pub extern "C" fn juvrada_bend(curve: u8) -> f32
+    ensures { λ r. ⌜ Charted curve r ⌝ }
+{
+    bends::bend(curve)
 }
 
 #[no_mangle]

@@ -1,4 +1,4 @@
--- The laws of a written slice and of an element; a test over all numbers below a bound, and over all rows of a table.
+-- The laws of a written slice, of an element and of a table of values; a test over all numbers below a bound, and over all rows of a table.
 pub mod Written
 pub mod Elements
 pub mod Every

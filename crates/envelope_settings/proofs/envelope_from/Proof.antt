@@ -8,9 +8,9 @@ returns : tie.Need-returns
 unfolding envelopeOf firstOf secondOf thirdOf totalOf
 returns c =
     simp (
-      c .bend3 .ensures,
-      c .before .bend2 .ensures,
-      c .before .before .bend .ensures,
+      c .bend3 .ensures .is,
+      c .before .bend2 .ensures .is,
+      c .before .before .bend .ensures .is,
       c .before .before .before .sustain-end .ensures,
       c .before .before .before .before .byte4 .ensures,
       c .before .before .before .before .before .byte3 .ensures,

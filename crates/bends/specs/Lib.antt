@@ -1,0 +1,2 @@
+-- The bends of the curve bytes, and how good they are.
+pub mod Formula

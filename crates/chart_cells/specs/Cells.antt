@@ -1,0 +1,24 @@
+-- A CELL OF THE CHART OF BENDS: docs/SPECIFICATION.md, "The page of bends". In hundredths of a millimetre. Definitions only.
+use mathlib.Core.List.{List, _++_}
+use Prim.Native.Nat.{ℕ, _+_, _*_, _/_, _%_}
+use lib.Ieee.{binary32, toBits}
+use Rattle.exact.specs.Fraction.{ratio, _*ℚ_}
+use Rattle.exact.specs.Value.{value}
+use Rattle.bends.specs.Formula.{bendOf}
+use Rattle.text.specs.Text.{ascii}
+use Rattle.numerals.specs.Spelled.{decimalOf, hexOf, fixedOf}
+use Rattle.fixed_point.specs.Nearest.{nearestℚ}
+
+-- Where the cell of curve byte c stands: 16 of them in a row.
+unfoldable pub placeText : ℕ → List ℕ
+placeText c = ascii "<g transform='translate(" ++ decimalOf (1590 + 1768 * (c % 16)) ++ ascii " " ++ decimalOf (1830 + 1150 * (c / 16)) ++ ascii ")'>"
+
+-- The bend of curve byte c in six places: the nearest whole number of millionths.
+unfoldable pub sixPlaces : ℕ → List ℕ
+sixPlaces c = fixedOf (nearestℚ (value (bendOf c) *ℚ ratio 1000000 1)) 6
+
+-- The byte, its bend in six places, and the bits of the bend, below each other.
+unfoldable pub cellText : ℕ → List ℕ
+cellText c =
+    placeText c ++ ascii "<text class='c'>" ++ decimalOf c ++ ascii "</text><text class='k' y='370'>" ++ sixPlaces c ++
+    ascii "</text><text y='735'>" ++ hexOf (toBits binary32 (bendOf c)) ++ ascii "</text></g>\n"

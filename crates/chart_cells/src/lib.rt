@@ -1,0 +1,41 @@
+// A cell of the chart of bends: a curve byte, its bend in six places, and the bits of the bend.
+ghost use Rattle.text.specs.Text.{Puts};
+ghost use Rattle.chart_cells.specs.Cells.{placeText, sixPlaces, cellText};
+use bends::bend;
+use fixed_point::nearest;
+use float_bits::word_of;
+use numerals::put_decimal;
+use numerals::put_fixed;
+use numerals::put_hex;
+use text::put;
+
+// Where the cell of curve byte c stands: 16 of them in a row.
+fn put_place(out: &mut [u8], at: usize, c: u8) -> usize
+    ensures { λ r. ⌜ Puts (now (out .entry)) at (placeText c) (now (out .exit)) r ⌝ }
+{
+    let mut next = put(out, at, b"<g transform='translate(");
+    next = put_decimal(out, next, 1590 + 1768 * (c as u64 % 16));
+    next = put(out, next, b" ");
+    next = put_decimal(out, next, 1830 + 1150 * (c as u64 / 16));
+    put(out, next, b")'>")
+}
+
+// A quarter of a bend is exact, and a number from 0 to 1.
+fn put_bend(out: &mut [u8], at: usize, c: u8) -> usize
+    ensures { λ r. ⌜ Puts (now (out .entry)) at (sixPlaces c) (now (out .exit)) r ⌝ }
+{
+    put_fixed(out, at, nearest(bend(c) * 0.25, 4_000_000), 6)
+}
+
+pub fn put_cell(out: &mut [u8], at: usize, c: u8) -> usize
+    ensures { λ r. ⌜ Puts (now (out .entry)) at (cellText c) (now (out .exit)) r ⌝ }
+{
+    let mut next = put_place(out, at, c);
+    next = put(out, next, b"<text class='c'>");
+    next = put_decimal(out, next, c as u64);
+    next = put(out, next, b"</text><text class='k' y='370'>");
+    next = put_bend(out, next, c);
+    next = put(out, next, b"</text><text y='735'>");
+    next = put_hex(out, next, word_of(bend(c)));
+    put(out, next, b"</text></g>\n")
+}

@@ -1,0 +1,2 @@
+-- The page of bends.
+pub mod ChartPage
