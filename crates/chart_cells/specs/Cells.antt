@@ -11,14 +11,16 @@ use Rattle.fixed_point.specs.Nearest.{nearestℚ}
 
 -- Where the cell of curve byte c stands: 16 of them in a row.
 unfoldable pub placeText : ℕ → List ℕ
-placeText c = ascii "<g transform='translate(" ++ decimalOf (1590 + 1768 * (c % 16)) ++ ascii " " ++ decimalOf (1830 + 1150 * (c / 16)) ++ ascii ")'>"
+placeText c = ascii "<g transform='translate(" ++ decimalOf (820 + 1768 * (c % 16)) ++ ascii " " ++ decimalOf (1730 + 1190 * (c / 16)) ++ ascii ")scale(.88 1)'>"
 
 -- The bend of curve byte c in six places: the nearest whole number of millionths.
 unfoldable pub sixPlaces : ℕ → List ℕ
 sixPlaces c = fixedOf (nearestℚ (value (bendOf c) *ℚ ratio 1000000 1)) 6
 
--- The byte, its bend in six places, and the bits of the bend, below each other.
+-- The six places, and below them the bits of the bend.
+unfoldable pub numbersText : ℕ → List ℕ
+numbersText c = sixPlaces c ++ ascii "</text><text y='780'>" ++ hexOf (toBits binary32 (bendOf c))
+
+-- The byte, and below it the numbers.
 unfoldable pub cellText : ℕ → List ℕ
-cellText c =
-    placeText c ++ ascii "<text class='c'>" ++ decimalOf c ++ ascii "</text><text class='k' y='370'>" ++ sixPlaces c ++
-    ascii "</text><text y='735'>" ++ hexOf (toBits binary32 (bendOf c)) ++ ascii "</text></g>\n"
+cellText c = placeText c ++ ascii "<text class='c'>" ++ decimalOf c ++ ascii "</text><text y='390'>" ++ numbersText c ++ ascii "</text></g>\n"

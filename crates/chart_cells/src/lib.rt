@@ -1,6 +1,6 @@
 // A cell of the chart of bends: a curve byte, its bend in six places, and the bits of the bend.
 ghost use Rattle.text.specs.Text.{Puts};
-ghost use Rattle.chart_cells.specs.Cells.{placeText, sixPlaces, cellText};
+ghost use Rattle.chart_cells.specs.Cells.{placeText, sixPlaces, numbersText, cellText};
 use bends::bend;
 use fixed_point::nearest;
 use float_bits::word_of;
@@ -14,10 +14,10 @@ fn put_place(out: &mut [u8], at: usize, c: u8) -> usize
     ensures { λ r. ⌜ Puts (now (out .entry)) at (placeText c) (now (out .exit)) r ⌝ }
 {
     let mut next = put(out, at, b"<g transform='translate(");
-    next = put_decimal(out, next, 1590 + 1768 * (c as u64 % 16));
+    next = put_decimal(out, next, 820 + 1768 * (c as u64 % 16));
     next = put(out, next, b" ");
-    next = put_decimal(out, next, 1830 + 1150 * (c as u64 / 16));
-    put(out, next, b")'>")
+    next = put_decimal(out, next, 1730 + 1190 * (c as u64 / 16));
+    put(out, next, b")scale(.88 1)'>")
 }
 
 // A quarter of a bend is exact, and a number from 0 to 1.
@@ -27,15 +27,22 @@ fn put_bend(out: &mut [u8], at: usize, c: u8) -> usize
     put_fixed(out, at, nearest(bend(c) * 0.25, 4_000_000), 6)
 }
 
+// Its six places, and below them its bits.
+fn put_numbers(out: &mut [u8], at: usize, c: u8) -> usize
+    ensures { λ r. ⌜ Puts (now (out .entry)) at (numbersText c) (now (out .exit)) r ⌝ }
+{
+    let mut next = put_bend(out, at, c);
+    next = put(out, next, b"</text><text y='780'>");
+    put_hex(out, next, word_of(bend(c)))
+}
+
 pub fn put_cell(out: &mut [u8], at: usize, c: u8) -> usize
     ensures { λ r. ⌜ Puts (now (out .entry)) at (cellText c) (now (out .exit)) r ⌝ }
 {
     let mut next = put_place(out, at, c);
     next = put(out, next, b"<text class='c'>");
     next = put_decimal(out, next, c as u64);
-    next = put(out, next, b"</text><text class='k' y='370'>");
-    next = put_bend(out, next, c);
-    next = put(out, next, b"</text><text y='735'>");
-    next = put_hex(out, next, word_of(bend(c)));
+    next = put(out, next, b"</text><text y='390'>");
+    next = put_numbers(out, next, c);
     put(out, next, b"</text></g>\n")
 }
