@@ -15,8 +15,8 @@ from math import floor
 from heights import bend
 
 CELL = re.compile(
-    r"<g transform='translate\((\d+) (\d+)\)'><text class='c'>(\d+)</text>"
-    r"<text class='k' y='\d+'>(\d\.\d{6})</text><text y='\d+'>([0-9a-f]{8})</text></g>"
+    r"<g transform='translate\((\d+) (\d+)\)scale\(.88 1\)'><text class='c'>(\d+)</text>"
+    r"<text y='390'>(\d\.\d{6})</text><text y='780'>([0-9a-f]{8})</text></g>"
 )
 
 
@@ -31,12 +31,21 @@ def near(k, c, n):
     return (1 - F(1, n)) ** 64 * power <= k**64 <= (1 + F(1, n)) ** 64 * power
 
 
-def faults(c, cell, corner):
+def parts(k, c):
+    """The most parts n, below 2**40, of which k differs by one at most."""
+    low, high = 1, 2**40
+    while high - low > 1:
+        middle = (low + high) // 2
+        low, high = (middle, high) if near(k, c, middle) else (low, middle)
+    return low
+
+
+def faults(c, cell):
     """What is wrong with the cell of curve byte c."""
     x, y, byte, places, bits = cell
     k = value(int(bits, 16))
     millionths = floor(k * 10**6 + F(1, 2))
-    if (int(x) - corner[0], int(y) - corner[1]) != (c % 16 * 1768, c // 16 * 1150):
+    if (int(x), int(y)) != (820 + c % 16 * 1768, 1730 + c // 16 * 1190):
         yield "its place"
     if int(byte) != c:
         yield "its byte"
@@ -50,9 +59,12 @@ def faults(c, cell, corner):
 
 def main():
     cells = [match.groups() for match in CELL.finditer(sys.stdin.read())]
-    corner = [int(n) for n in cells[0][:2]] if cells else [0, 0]
-    wrong = [f"cell {c}: {fault}" for c, cell in enumerate(cells) for fault in faults(c, cell, corner)]
-    print("\n".join(wrong + [f"{len(cells)} bends on a page, {len(wrong)} faults"]))
+    wrong = [f"cell {c}: {fault}" for c, cell in enumerate(cells) for fault in faults(c, cell)]
+    print(*wrong, f"{len(cells)} bends on a page, {len(wrong)} faults", sep="\n")
+    if not cells:
+        sys.exit(1)
+    worst, byte = min((parts(value(int(cell[4], 16)), c), c) for c, cell in enumerate(cells))
+    print(f"that of byte {byte} is the farthest from its power: by one part in {worst:,}, and no more")
     sys.exit(bool(wrong) or len(cells) != 256)
 
 
