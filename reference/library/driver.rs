@@ -807,12 +807,12 @@ fn jobs() -> Vec<Job> {
     for sustain in 0..=255 {
         all.push(Box::new(move |work| wanted(work, sustain)));
     }
-    all.push(Box::new(|work| (0..=255).for_each(|curve| work.bend(curve))));
     for code in [0, 1, 2] {
         for attack in [0, 1, 255] {
             all.push(Box::new(move |work| starts(work, code, attack)));
         }
     }
+    all.push(Box::new(|work| (0..=255).for_each(|curve| work.bend(curve))));
     all
 }
 
