@@ -1,7 +1,9 @@
 -- THE CHART OF BENDS: what one computed test over the 256 curve bytes says of each bend. It is near its power, and lies from 1/4 to 4. Assumes nothing.
-use mathlib.Core.Path.{_≡_, refl, subst⁻¹}
+use mathlib.Core.Path.{_≡_, refl, ap, subst⁻¹, _∙_}
 use mathlib.Core.Bool.{Bool, true, false, _&&_}
-use Prim.Native.Nat.{ℕ, _+_, _-_, _*_, _^_, _<_}
+use Prim.Native.Nat.{ℕ, _+_, _-_, _*_, _%_, _^_, _<_}
+use native.Mathlib.Omega.{arith}
+use lib.ListN.{getD}
 use lib.Dec.{T, leb, leb→le, ltb, ltb→lt}
 use lib.Ieee.{Float, nan, inf, fin, binary32, up, down, ofBits, ofInt, fits, le, lt, eq, add, sub, mul, div}
 use lib.Ieee.Fits.{and-l, and-r, mul-fits}
@@ -11,6 +13,7 @@ use Rattle.series.specs.Horner.{horner}
 use Rattle.math.specs.Formulas.{clampOf}
 use Rattle.floor.specs.Formula.{floorOf, fractOf}
 use Rattle.exp2.specs.Formula.{exp2Scale, exp2Coefficients, exp2Within, exp2Of}
+use Rattle.lists.proofs.Elements.{listed, listed-at}
 use Rattle.lists.proofs.Every.{every, each}
 use Rattle.bends.specs.Formula.{bendOf, NearPower, parts, Charted}
 
@@ -73,6 +76,10 @@ charted-as c h e = near-charted c _ (subst⁻¹ (λ (x : Float). T (near c x)) e
 
 pub charted : (c : ℕ) → c < 256 → Charted c (bendOf c)
 charted c h = charted-as c h refl
+
+-- What stands in a row of 16, whose first byte is j, at the place of byte c.
+pub in-row : (j c : ℕ) {k : Float} → c < 256 → j + c % 16 ≡ c → k ≡ getD (listed bendOf j 16) (c % 16) nan → Charted c k
+in-row j c h e g = charted-as c h (g ∙ listed-at bendOf nan j 16 (c % 16) (omega arith) ∙ ap bendOf e)
 
 in-range : (c : ℕ) → c < 256 → T (ranges (bendOf c))
 unfolding entry

@@ -39,13 +39,3 @@ past (c ∷ cs) (suc n) h = past cs n (omega arith)
 pub code-above : (n : ℕ) → 14 ≤ n → codeOf n ≡ Above
 unfolding codes
 code-above n h = past codes n h
-
--- ---- a match that has passed the numbers below k
-unfoldable pub Passed : ℕ → ℕ → Type 0
-Passed zero n = Unit
-Passed (suc k) n = Passed k n × (n ≡ k → ⊥)
-
-pub passed : (k : ℕ) {n : ℕ} → Passed k n → k ≤ n
-unfolding Passed
-passed zero p = omega arith
-passed (suc k) {n} p = let l : k ≤ n = passed k (p .0) in let d : n ≡ k → ⊥ = p .1 in omega arith

@@ -2,7 +2,7 @@
 use mathlib.Core.Path.{_≡_, refl, sym, ap, _∙_}
 use mathlib.Core.List.{List, [], _∷_}
 use Prim.Native.Nat.{ℕ, zero, suc, _+_, _≤_, _<_}
-use native.Mathlib.Nat.{add-zero, zero-add, add-suc, suc-add, not-suc-le-zero, le-of-suc-le-suc}
+use native.Mathlib.Nat.{add-zero, add-suc, suc-add, not-suc-le-zero, le-of-suc-le-suc}
 use lib.ListN.{length, getD}
 
 module _ {A : Type 0} where
@@ -16,16 +16,13 @@ module _ {A : Type 0} where
   element-past (x ∷ xs) zero d h = absurd (not-suc-le-zero h)
   element-past (x ∷ xs) (suc i) d h = element-past xs i d (le-of-suc-le-suc h)
 
--- ---- the values of a function from j on, n of them; and one of those from 0 on
+-- ---- the values of a function from j on, n of them; and one of those
 unfoldable pub listed : {A : Type 0} → (ℕ → A) → ℕ → ℕ → List A
 listed f j zero = []
 listed f j (suc n) = f j ∷ listed f (suc j) n
 
-listed-from : {A : Type 0} (f : ℕ → A) (d : A) (j n k : ℕ) → k < n → getD (listed f j n) k d ≡ f (j + k)
+pub listed-at : {A : Type 0} (f : ℕ → A) (d : A) (j n k : ℕ) → k < n → getD (listed f j n) k d ≡ f (j + k)
 unfolding listed
-listed-from f d j zero k h = absurd (not-suc-le-zero h)
-listed-from f d j (suc n) zero h = ap f (sym (add-zero j))
-listed-from f d j (suc n) (suc k) h = listed-from f d (suc j) n k (le-of-suc-le-suc h) ∙ ap f (suc-add j k ∙ sym (add-suc j k))
-
-pub listed-at : {A : Type 0} (f : ℕ → A) (d : A) (n k : ℕ) → k < n → getD (listed f 0 n) k d ≡ f k
-listed-at f d n k h = listed-from f d 0 n k h ∙ ap f (zero-add k)
+listed-at f d j zero k h = absurd (not-suc-le-zero h)
+listed-at f d j (suc n) zero h = ap f (sym (add-zero j))
+listed-at f d j (suc n) (suc k) h = listed-at f d (suc j) n k (le-of-suc-le-suc h) ∙ ap f (suc-add j k ∙ sym (add-suc j k))

@@ -1,6 +1,7 @@
 -- `code_from` is `codeOf`: an arm for each code, and one for the bytes above them. Assumes nothing.
 use Rattle.codes.specs.Codes.{codes, codeIn}
-use Rattle.codes.proofs.Numbers.{code-above, Passed, passed}
+use Rattle.lists.proofs.Passed.{Passed, passed}
+use Rattle.codes.proofs.Numbers.{code-above}
 use Rattle.codes.proofs.code_from.Statement.{statement}
 use Rattle.codes.proofs.code_from.Tie as tie
 

@@ -1,7 +1,7 @@
 -- `entry` is an entry of the table, and none past its end. Assumes nothing.
 use borrow.Author.Needs.{needs}
 use lib.ListN.{List·getD-eq-default}
-use Rattle.codes.proofs.Numbers.{Passed, passed}
+use Rattle.lists.proofs.Passed.{Passed, passed}
 use Rattle.edge_trials.specs.Edges.{noEdges, table}
 use Rattle.edge_trials.proofs.entry.Statement.{statement}
 use Rattle.edge_trials.proofs.entry.Tie as tie
