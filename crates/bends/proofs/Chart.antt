@@ -45,8 +45,8 @@ unfolding every entry near low high ranges bendOf le lt eq exp2Of exp2Within cla
 all-charted = tt
 
 -- ---- what it says of each entry
-passed : (c : ℕ) → c < 256 → T (entry c (bendOf c))
-passed c h = each (λ c. entry c (bendOf c)) 256 c all-charted h
+tested : (c : ℕ) → c < 256 → T (entry c (bendOf c))
+tested c h = each (λ c. entry c (bendOf c)) 256 c all-charted h
 
 near-charted : (c : ℕ) (k : Float) → T (near c k) → k ≡ bendOf c → Charted c k
 unfolding near low high value
@@ -72,7 +72,7 @@ near-charted c (fin false m x) t e =
 
 pub charted-as : (c : ℕ) {k : Float} → c < 256 → k ≡ bendOf c → Charted c k
 unfolding entry
-charted-as c h e = near-charted c _ (subst⁻¹ (λ (x : Float). T (near c x)) e (and-l (near c (bendOf c)) (ranges (bendOf c)) (passed c h))) e
+charted-as c h e = near-charted c _ (subst⁻¹ (λ (x : Float). T (near c x)) e (and-l (near c (bendOf c)) (ranges (bendOf c)) (tested c h))) e
 
 pub charted : (c : ℕ) → c < 256 → Charted c (bendOf c)
 charted c h = charted-as c h refl
@@ -83,7 +83,7 @@ in-row j c h e g = charted-as c h (g ∙ listed-at bendOf nan j 16 (c % 16) (ome
 
 in-range : (c : ℕ) → c < 256 → T (ranges (bendOf c))
 unfolding entry
-in-range c h = and-r (near c (bendOf c)) (ranges (bendOf c)) (passed c h)
+in-range c h = and-r (near c (bendOf c)) (ranges (bendOf c)) (tested c h)
 
 pub bend-from-quarter : (c : ℕ) → c < 256 → T (le quarter₃₂ (bendOf c))
 unfolding ranges

@@ -5,7 +5,7 @@ ghost use lib.Ieee.{nan};
 ghost use lib.ListN.{getD};
 ghost use Rattle.bends.specs.Formula.{Charted};
 
-// The bend of each curve byte, 16 in a row. It doubles every four rows, and is 1 at the start of the ninth.
+// The bend of each curve byte, 16 in a row. From a row to the fourth after it the bends double; byte 128 has 1.
 const BENDS: [[f32; 16]; 16] = [
     [
         0.25,
@@ -297,7 +297,8 @@ const BENDS: [[f32; 16]; 16] = [
     ],
 ];
 
-// Number k of a row. It is read at a place that is known when this is compiled, as the row is below: so the chart stays in memory as a table that is only read, and no copy of it is made.
+// Number k of a row. Each arm reads a place that is known when this is compiled, and so does each arm of `bend`: the
+// compiler then makes a table of them that is read in place, and no copy of the chart for each call.
 fn in_row(row: [f32; 16], k: u8) -> f32
     requires { ⌜ k < 16 ⌝ }
     ensures { λ r. ⌜ r ≡ getD row k nan ⌝ }
