@@ -15,7 +15,7 @@ from math import floor
 from heights import bend
 
 CELL = re.compile(
-    r"<g transform='translate\((\d+) (\d+)\)scale\(.88 1\)'><text class='c'>(\d+)</text>"
+    r"<g transform='translate\((\d+) (\d+)\)scale\(.86 1\)'><text class='c'>(\d+)</text>"
     r"<text y='390'>(\d\.\d{6})</text><text y='780'>([0-9a-f]{8})</text></g>"
 )
 

@@ -4,14 +4,14 @@ use Rattle.text.specs.Text.{ascii}
 use Rattle.numerals.specs.Spelled.{glyphOf, digitsOf, placesFrom, decimalOf}
 use Rattle.chart_cells.specs.Cells.{placeText}
 
-end-of-the-first : placeText 15 ≡ ascii "<g transform='translate(27340 1730)scale(.88 1)'>"
+end-of-the-first : placeText 15 ≡ ascii "<g transform='translate(27340 1730)scale(.86 1)'>"
 unfolding placeText decimalOf digitsOf placesFrom glyphOf
 end-of-the-first = refl
 
-start-of-the-second : placeText 16 ≡ ascii "<g transform='translate(820 2920)scale(.88 1)'>"
+start-of-the-second : placeText 16 ≡ ascii "<g transform='translate(820 2920)scale(.86 1)'>"
 unfolding placeText decimalOf digitsOf placesFrom glyphOf
 start-of-the-second = refl
 
-last : placeText 255 ≡ ascii "<g transform='translate(27340 19580)scale(.88 1)'>"
+last : placeText 255 ≡ ascii "<g transform='translate(27340 19580)scale(.86 1)'>"
 unfolding placeText decimalOf digitsOf placesFrom glyphOf
 last = refl

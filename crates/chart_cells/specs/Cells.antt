@@ -11,7 +11,7 @@ use Rattle.fixed_point.specs.Nearest.{nearestℚ}
 
 -- Where the cell of curve byte c stands: 16 of them in a row.
 unfoldable pub placeText : ℕ → List ℕ
-placeText c = ascii "<g transform='translate(" ++ decimalOf (820 + 1768 * (c % 16)) ++ ascii " " ++ decimalOf (1730 + 1190 * (c / 16)) ++ ascii ")scale(.88 1)'>"
+placeText c = ascii "<g transform='translate(" ++ decimalOf (820 + 1768 * (c % 16)) ++ ascii " " ++ decimalOf (1730 + 1190 * (c / 16)) ++ ascii ")scale(.86 1)'>"
 
 -- The bend of curve byte c in six places: the nearest whole number of millionths.
 unfoldable pub sixPlaces : ℕ → List ℕ

@@ -17,7 +17,7 @@ fn put_place(out: &mut [u8], at: usize, c: u8) -> usize
     next = put_decimal(out, next, 820 + 1768 * (c as u64 % 16));
     next = put(out, next, b" ");
     next = put_decimal(out, next, 1730 + 1190 * (c as u64 / 16));
-    put(out, next, b")scale(.88 1)'>")
+    put(out, next, b")scale(.86 1)'>")
 }
 
 // A quarter of a bend is exact, and a number from 0 to 1.
