@@ -179,9 +179,8 @@ juvrada_count_result juvrada_bars(const uint8_t *block, size_t block_len, float 
 juvrada_curve_result juvrada_curve_for_end(uint8_t sustain, float wanted);
 
 /*
- * The bend of a curve byte, from a chart: what an envelope has for the curve of its attack, decay or release, bit for bit. It is near 2 to the power
- * (curve - 128) / 64, and differs from that by at most one part in 1,048,576 of it. Every byte has one, from 1/4 at 0 to just below 4 at 255; it is never
- * refused.
+ * The bend of a curve byte, from a chart: what an envelope has for the curve of its attack, decay or release, bit for bit. It differs from 2 to the power
+ * (curve - 128) / 64 by at most one part in 1,048,576 of that power. Every byte has one: 0.25 at 0, 1 at 128, 3.9569118 at 255.
  */
 float juvrada_bend(uint8_t curve);
 

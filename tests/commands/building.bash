@@ -172,12 +172,13 @@ PATH=$stand/bin:$usual
 run "$door" build
 expect "build: status $got" [ "$got" -eq 0 ]
 expect "build ran: $(cat "$stand/log")" [ "$(cat "$stand/log")" = $'check\nstaticlib juvrada' ]
-expect "build says: $(head -n 1 err)" eval 'head -n 1 err | grep -q "^juvrada: build: everything, 12 steps" && grep -q "^juvrada: build: 12 of 12, " err'
+expect "build says: $(head -n 1 err)" eval 'head -n 1 err | grep -q "^juvrada: build: everything, 13 steps" && grep -q "^juvrada: build: 13 of 13, " err'
 : >"$stand/log"
 same sheet-example 0 "$door" sheet example
 same parameters-example 0 "$door" parameters example
 same compare-different 1 "$door" compare example changed
 same heights-lfo 0 "$door" heights example 3 17
+same chart 0 "$door" chart
 same floor-0xc0200000 0 "$door" floor 0xc0200000
 same check 0 "$door" check
 expect "a command built again what build had built" [ ! -s "$stand/log" ]
