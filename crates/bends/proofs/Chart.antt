@@ -15,7 +15,7 @@ use Rattle.floor.specs.Formula.{floorOf, fractOf}
 use Rattle.exp2.specs.Formula.{exp2Scale, exp2Coefficients, exp2Within, exp2Of}
 use Rattle.lists.proofs.Elements.{listed, listed-at}
 use Rattle.lists.proofs.Every.{every, each}
-use Rattle.bends.specs.Formula.{bendOf, NearPower, parts, Charted}
+use Rattle.bends.specs.Formula.{bendOf, parts, Charted}
 
 -- ---- the test of an entry k of byte c: it is near its power
 low : ℕ → ℕ → ℕ → ℕ → Bool

@@ -3,7 +3,7 @@ use mathlib.Core.Path.{_≡_}
 use mathlib.Core.Bool.{Bool}
 use Prim.Native.Nat.{ℕ, _<_}
 use lib.Dec.{T, eqb, eqb→eq}
-use lib.Ieee.{binary32, ofBits, ofInt, isNan, lt, add, sub, mul, div}
+use lib.Ieee.{ofBits, ofInt, isNan, lt, add, sub, mul, div}
 use Rattle.exact.specs.Fraction.{ratio, _*ℚ_}
 use Rattle.exact.specs.Value.{value}
 use Rattle.exact.specs.Binary32.{_⊗_, quarter₃₂}

@@ -1,5 +1,4 @@
 -- `bend` reads the chart: its rows are the values of the formula, by computation. Assumes nothing.
-use Prim.Native.Nat.{_≤_, _/_}
 use native.Mathlib.Omega.{arith}
 use lib.Ieee.{ofBits, ofInt, lt, add, sub, mul, div}
 use Rattle.lists.proofs.Elements.{listed}

@@ -1,6 +1,5 @@
 -- `in_row` reads its place of the row, by the place's number. Assumes nothing.
 use mathlib.Core.Path.{_≡_}
-use Prim.Native.Nat.{ℕ}
 use native.Mathlib.Omega.{arith}
 use Rattle.lists.proofs.Passed.{Passed, passed}
 use borrow.Author.Needs.{needs}

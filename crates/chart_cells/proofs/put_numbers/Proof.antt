@@ -1,6 +1,6 @@
 -- `put_numbers` puts `numbersText`: its parts, one after the other. Assumes nothing.
 use mathlib.Core.Path.{refl, ap, _∙_}
-use lib.Ieee.{Float, binary32, toBits}
+use lib.Ieee.{binary32, toBits}
 use Rattle.numerals.specs.Spelled.{hexOf}
 use Rattle.text.proofs.Writing.{_⨾_, puts-as}
 use Rattle.chart_cells.specs.Cells.{numbersText}
