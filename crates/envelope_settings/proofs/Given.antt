@@ -4,7 +4,7 @@ use Prim.Native.Nat.{ℕ, _<_}
 use lib.Ieee.{binary32}
 use lib.Ieee.Fits.{add-fits, div-fits}
 use Rattle.bends.specs.Formula.{bendOf, Charted}
-use Rattle.bends.proofs.Chart.{bend-holds, bend-from-quarter, bend-to-four, charted}
+use Rattle.bends.proofs.Entries.{bend-holds, bend-from-quarter, bend-to-four, charted}
 use Rattle.settings.specs.declared.Envelope.{Envelope}
 use Rattle.settings.proofs.Ranges.{BendRange, EnvelopeRange}
 use Rattle.settings.proofs.Bytes.{byte-level}

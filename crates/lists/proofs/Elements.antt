@@ -4,6 +4,7 @@ use mathlib.Core.List.{List, [], _∷_}
 use Prim.Native.Nat.{ℕ, zero, suc, _+_, _≤_, _<_}
 use native.Mathlib.Nat.{add-zero, add-suc, suc-add, not-suc-le-zero, le-of-suc-le-suc}
 use lib.ListN.{length, getD}
+use Rattle.lists.specs.Listed.{listed}
 
 module _ {A : Type 0} where
   pub element-there : (xs : List A) (i : ℕ) (d e : A) → i < length xs → getD xs i d ≡ getD xs i e
@@ -16,11 +17,7 @@ module _ {A : Type 0} where
   element-past (x ∷ xs) zero d h = absurd (not-suc-le-zero h)
   element-past (x ∷ xs) (suc i) d h = element-past xs i d (le-of-suc-le-suc h)
 
--- ---- the values of a function from j on, n of them; and one of those
-unfoldable pub listed : {A : Type 0} → (ℕ → A) → ℕ → ℕ → List A
-listed f j zero = []
-listed f j (suc n) = f j ∷ listed f (suc j) n
-
+-- ---- an element of a table
 pub listed-at : {A : Type 0} (f : ℕ → A) (d : A) (j n k : ℕ) → k < n → getD (listed f j n) k d ≡ f (j + k)
 unfolding listed
 listed-at f d j zero k h = absurd (not-suc-le-zero h)

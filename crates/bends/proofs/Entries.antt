@@ -1,7 +1,8 @@
 -- THE CHART OF BENDS: what one computed test over the 256 curve bytes says of each bend. It is near its power, and lies from 1/4 to 4. Assumes nothing.
 use mathlib.Core.Path.{_≡_, refl, ap, subst⁻¹, _∙_}
 use mathlib.Core.Bool.{Bool, true, false, _&&_}
-use Prim.Native.Nat.{ℕ, _+_, _-_, _*_, _%_, _^_, _<_}
+use mathlib.Core.List.{List, []}
+use Prim.Native.Nat.{ℕ, _+_, _-_, _*_, _/_, _%_, _^_, _<_}
 use native.Mathlib.Omega.{arith}
 use lib.ListN.{getD}
 use lib.Dec.{T, leb, leb→le, ltb, ltb→lt}
@@ -13,9 +14,10 @@ use Rattle.series.specs.Horner.{horner}
 use Rattle.math.specs.Formulas.{clampOf}
 use Rattle.floor.specs.Formula.{floorOf, fractOf}
 use Rattle.exp2.specs.Formula.{exp2Scale, exp2Coefficients, exp2Within, exp2Of}
-use Rattle.lists.proofs.Elements.{listed, listed-at}
+use Rattle.lists.specs.Listed.{listed}
+use Rattle.lists.proofs.Elements.{listed-at}
 use Rattle.lists.proofs.Every.{every, each}
-use Rattle.bends.specs.Formula.{bendOf, parts, Charted}
+use Rattle.bends.specs.Formula.{bendOf, chartOf, parts, Charted}
 
 -- ---- the test of an entry k of byte c: it is near its power
 low : ℕ → ℕ → ℕ → ℕ → Bool
@@ -77,9 +79,13 @@ charted-as c h e = near-charted c _ (subst⁻¹ (λ (x : Float). T (near c x)) e
 pub charted : (c : ℕ) → c < 256 → Charted c (bendOf c)
 charted c h = charted-as c h refl
 
--- What stands in a row of 16, whose first byte is j, at the place of byte c.
-pub in-row : (j c : ℕ) {k : Float} → c < 256 → j + c % 16 ≡ c → k ≡ getD (listed bendOf j 16) (c % 16) nan → Charted c k
-in-row j c h e g = charted-as c h (g ∙ listed-at bendOf nan j 16 (c % 16) (omega arith) ∙ ap bendOf e)
+-- What stands at the place of byte c: row i of the chart, number c % 16.
+pub at-its-place : (i c : ℕ) {rows : List (List Float)} {k : Float} → rows ≡ chartOf → c < 256 → c / 16 ≡ i → k ≡ getD (getD rows i []) (c % 16) nan → Charted c k
+unfolding chartOf
+at-its-place i c e h r g =
+    charted-as c h
+    (g ∙ ap (λ (t : List (List Float)). getD (getD t i []) (c % 16) nan) e ∙ ap (λ (t : List Float). getD t (c % 16) nan) (listed-at (λ i. listed bendOf (16 * i) 16) [] 0 16 i (omega arith)) ∙
+    listed-at bendOf nan (16 * (0 + i)) 16 (c % 16) (omega arith) ∙ ap bendOf (omega arith))
 
 in-range : (c : ℕ) → c < 256 → T (ranges (bendOf c))
 unfolding entry
