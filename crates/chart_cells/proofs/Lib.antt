@@ -1,3 +1,2 @@
--- The six places of every bend; cells held against their definition.
+-- The six places of every bend.
 pub mod Places
-pub mod Examples

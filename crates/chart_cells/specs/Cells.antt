@@ -1,6 +1,6 @@
 -- A CELL OF THE CHART OF BENDS: docs/SPECIFICATION.md, "The page of bends". In hundredths of a millimetre. Definitions only.
 use mathlib.Core.List.{List, _++_}
-use Prim.Native.Nat.{ℕ, _+_, _*_, _/_, _%_}
+use Prim.Native.Nat.{ℕ}
 use lib.Ieee.{binary32, toBits}
 use Rattle.exact.specs.Fraction.{ratio, _*ℚ_}
 use Rattle.exact.specs.Value.{value}
@@ -8,10 +8,7 @@ use Rattle.bends.specs.Formula.{bendOf}
 use Rattle.text.specs.Text.{ascii}
 use Rattle.numerals.specs.Spelled.{decimalOf, hexOf, fixedOf}
 use Rattle.fixed_point.specs.Nearest.{nearestℚ}
-
--- Where the cell of curve byte c stands: 16 of them in a row.
-unfoldable pub placeText : ℕ → List ℕ
-placeText c = ascii "<g transform='translate(" ++ decimalOf (820 + 1768 * (c % 16)) ++ ascii " " ++ decimalOf (1730 + 1190 * (c / 16)) ++ ascii ")scale(.86 1)'>"
+use Rattle.chart_places.specs.Places.{placeText}
 
 -- The bend of curve byte c in six places: the nearest whole number of millionths.
 unfoldable pub sixPlaces : ℕ → List ℕ

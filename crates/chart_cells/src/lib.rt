@@ -1,24 +1,14 @@
 // A cell of the chart of bends: a curve byte, its bend in six places, and the bits of the bend.
 ghost use Rattle.text.specs.Text.{Puts};
-ghost use Rattle.chart_cells.specs.Cells.{placeText, sixPlaces, numbersText, cellText};
-use bends::bend;
+ghost use Rattle.chart_cells.specs.Cells.{sixPlaces, numbersText, cellText};
+use bend::bend;
+use chart_places::put_place;
 use fixed_point::nearest;
 use float_bits::word_of;
 use numerals::put_decimal;
 use numerals::put_fixed;
 use numerals::put_hex;
 use text::put;
-
-// Where the cell of curve byte c stands: 16 of them in a row.
-fn put_place(out: &mut [u8], at: usize, c: u8) -> usize
-    ensures { λ r. ⌜ Puts (now (out .entry)) at (placeText c) (now (out .exit)) r ⌝ }
-{
-    let mut next = put(out, at, b"<g transform='translate(");
-    next = put_decimal(out, next, 820 + 1768 * (c as u64 % 16));
-    next = put(out, next, b" ");
-    next = put_decimal(out, next, 1730 + 1190 * (c as u64 / 16));
-    put(out, next, b")scale(.86 1)'>")
-}
 
 // A quarter of a bend is exact, and a number from 0 to 1.
 fn put_bend(out: &mut [u8], at: usize, c: u8) -> usize

@@ -1,7 +1,7 @@
 // The settings that a program's bytes give an envelope.
 ghost use mathlib.Core.Path.{_≡_};
 ghost use Rattle.envelope_settings.specs.Formula.{sustainEndOf, envelopeOf};
-use bends::bend;
+use bend::bend;
 use settings::Envelope;
 use settings::HOLD_WIDTH;
 use settings::byte;

@@ -142,7 +142,7 @@ pub extern "C" fn juvrada_curve_for_end(sustain: u8, wanted: f32) -> CurveResult
 pub extern "C" fn juvrada_bend(curve: u8) -> f32
     ensures { λ r. ⌜ Charted curve r ⌝ }
 {
-    bends::bend(curve)
+    bend::bend(curve)
 }
 
 #[no_mangle]

@@ -1,8 +1,8 @@
--- Where cells stand, computed from the definition: the last of the first row, the first of the second, and the last of all; and a whole cell. Assumes nothing.
+-- Where cells stand, computed from the definition: the last of the first row, the first of the second, and the last of all. Assumes nothing.
 use mathlib.Core.Path.{_≡_, refl}
 use Rattle.text.specs.Text.{ascii}
 use Rattle.numerals.specs.Spelled.{glyphOf, digitsOf, placesFrom, decimalOf}
-use Rattle.chart_cells.specs.Cells.{placeText}
+use Rattle.chart_places.specs.Places.{placeText}
 
 end-of-the-first : placeText 15 ≡ ascii "<g transform='translate(27340 1730)scale(.86 1)'>"
 unfolding placeText decimalOf digitsOf placesFrom glyphOf

@@ -1,10 +1,10 @@
 -- `put_place` puts `placeText`: its parts, one after the other. Assumes nothing.
 use mathlib.Core.Path.{refl}
 use Rattle.text.proofs.Writing.{_⨾_}
-use Rattle.chart_cells.specs.Cells.{placeText}
+use Rattle.chart_places.specs.Places.{placeText}
 use borrow.Author.Needs.{needs}
-use Rattle.chart_cells.proofs.put_place.Statement.{statement}
-use Rattle.chart_cells.proofs.put_place.Tie as tie
+use Rattle.chart_places.proofs.put_place.Statement.{statement}
+use Rattle.chart_places.proofs.put_place.Tie as tie
 
 returns : tie.Need-returns
 unfolding placeText

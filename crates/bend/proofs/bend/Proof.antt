@@ -1,10 +1,10 @@
 -- `bend` reads the chart at the place of its byte, row by row. Assumes nothing.
 use native.Mathlib.Omega.{arith}
 use Rattle.lists.proofs.Passed.{Passed, passed}
 use Rattle.bends.proofs.Entries.{at-its-place}
 use borrow.Author.Needs.{needs}
-use Rattle.bends.proofs.bend.Statement.{statement}
-use Rattle.bends.proofs.bend.Tie as tie
+use Rattle.bend.proofs.bend.Statement.{statement}
+use Rattle.bend.proofs.bend.Tie as tie
 
 pub bend-spec : {M : Type 1} → statement M
 unfolding Passed

@@ -3,8 +3,8 @@ use mathlib.Core.Path.{_≡_}
 use native.Mathlib.Omega.{arith}
 use Rattle.lists.proofs.Passed.{Passed, passed}
 use borrow.Author.Needs.{needs}
-use Rattle.bends.proofs.in_row.Statement.{statement}
-use Rattle.bends.proofs.in_row.Tie as tie
+use Rattle.bend.proofs.in_row.Statement.{statement}
+use Rattle.bend.proofs.in_row.Tie as tie
 
 last : tie.Need-returns-16
 unfolding Passed

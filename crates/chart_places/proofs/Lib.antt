@@ -1,0 +1,2 @@
+-- Places held against their definition.
+pub mod Examples

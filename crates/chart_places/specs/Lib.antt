@@ -1,0 +1,2 @@
+-- Where the cells of the chart of bends stand.
+pub mod Places
