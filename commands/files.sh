@@ -59,12 +59,16 @@ deliver() {
     part=
 }
 
-# Makes a page of what was gathered, by its program. It has the name of the block's file, and of the old block's where there is one; without a block there is none.
+# Makes a page of what was gathered, by its program. It has the name of the block's file, and of the old block's where there is one; without a block there is none. A sheet has
+# its turns.
 page() { # PROGRAM, BLOCK or '' [OLD]
     leaf "$2"
     new=$leaf
     leaf "${3-}"
-    run "$1" "$scratch/blocks" '</svg>' "$new" "$leaf"
+    case $1 in
+    sheet) run sheet "$scratch/blocks" '</svg>' "$turns" "$new" "$leaf" ;;
+    *) run "$1" "$scratch/blocks" '</svg>' "$new" ;;
+    esac
 }
 
 # Sets `leaf` to the name of a block's file, without its folder.

@@ -12,10 +12,14 @@
  * A position t runs from 0 to 1 along the curve. Any float is taken: one beyond an end is that end, and NaN is 0. A height is a number from
  * 0 to 1, never NaN.
  *
+ * An LFO of shape 5 or 6, sample and hold or sample and glide, is drawn at 6 turns, or at the number of turns, 6 or 8,
+ * that a function whose name ends in _turns takes. For every other curve the number is checked and changes nothing.
+ *
  * Refusals, looked for in this order:
  *
  *   JUVRADA_BAD_BLOCK    the block is not JUVRADA_BLOCK bytes long
  *   JUVRADA_BAD_CODE     the code is above 13, 256 and more among them
+ *   JUVRADA_BAD_TURNS    the number of turns is neither 6 nor 8, for any code; 262, whose low byte is 6, among them
  *   JUVRADA_BAD_STRIP    the strip, or the captions, are fewer than JUVRADA_MIN_STRIP or more than JUVRADA_MAX_STRIP
  *   JUVRADA_BAD_LEVEL    the wanted level is NaN, below 0 or above 1
  *
@@ -43,7 +47,7 @@ extern "C" {
 #define JUVRADA_MAX_STRIP 4096
 
 /* The most marks that a curve has, the most settings, the gates that are drawn, and the taps of an impulse train. */
-#define JUVRADA_MAX_MARKS 6
+#define JUVRADA_MAX_MARKS 8
 #define JUVRADA_MAX_SETTINGS 8
 #define JUVRADA_GATES 4
 #define JUVRADA_TAPS 4
@@ -54,6 +58,7 @@ extern "C" {
 #define JUVRADA_BAD_CODE 2
 #define JUVRADA_BAD_STRIP 3
 #define JUVRADA_BAD_LEVEL 4
+#define JUVRADA_BAD_TURNS 5
 
 /* Kinds of marks. The first four are the starts of segments, and captions have the same numbers. */
 #define JUVRADA_MARK_ATTACK 0
@@ -122,7 +127,7 @@ juvrada_strip_result juvrada_strip(const uint8_t *block, size_t block_len, uint3
 /*
  * The same heights, bit for bit, and the same refusals, with one walk along the whole strip where an LFO's slew is not 0: far sooner done.
  * `steps` is that of the one walk: one for each full step that ends short of the last sample's phase, and one for each sample; 191 + out_len
- * where one turn is drawn, 671 + out_len where six are. It is 0 of everything else.
+ * where one turn is drawn, 671 + out_len where six are, 863 + out_len where eight are. It is 0 of everything else.
  */
 juvrada_strip_result juvrada_strip_once(const uint8_t *block, size_t block_len, uint32_t code, float *out, size_t out_len);
 
@@ -140,12 +145,31 @@ juvrada_scale_result juvrada_scale(const uint8_t *block, size_t block_len, uint3
 juvrada_anchored_result juvrada_anchored(const uint8_t *block, size_t block_len, uint32_t code);
 
 /*
+ * Five of the functions above at a number of turns, 6 or 8. At 6 each answers as the one without it. At 8 an LFO of
+ * shape 5 or 6 has eight marks, at 1/8, 2/8 and so on up to 1, and the scale is 8 turns; where its slew is not 0,
+ * a height takes from 96 to 864 steps.
+ */
+juvrada_height_result juvrada_height_turns(const uint8_t *block, size_t block_len, uint32_t code, uint32_t turns,
+                                           float t);
+
+juvrada_strip_result juvrada_strip_turns(const uint8_t *block, size_t block_len, uint32_t code, uint32_t turns,
+                                         float *out, size_t out_len);
+
+juvrada_strip_result juvrada_strip_once_turns(const uint8_t *block, size_t block_len, uint32_t code, uint32_t turns,
+                                              float *out, size_t out_len);
+
+juvrada_count_result juvrada_marks_turns(const uint8_t *block, size_t block_len, uint32_t code, uint32_t turns,
+                                         float at[JUVRADA_MAX_MARKS], uint8_t kind[JUVRADA_MAX_MARKS]);
+
+juvrada_scale_result juvrada_scale_turns(const uint8_t *block, size_t block_len, uint32_t code, uint32_t turns);
+
+/*
  * The settings that the curve is drawn from, in this order:
  *
  *   envelope     8   ends of the attack, the decay and the sustain, the sustain's level and the level at its end, bends of the attack, the
  *                    decay and the release
- *   LFO          5   shape (0 to 6: sine, triangle, square, ramp up, ramp down, sample and hold, sample and glide), turns, slew, unipolar,
- *                    synced
+ *   LFO          5   shape (0 to 6: sine, triangle, square, ramp up, ramp down, sample and hold, sample and glide),
+ *                    turns (6 of the last two, else 1), slew, unipolar, synced
  *   fade         1   where it ends
  *   filter       4   slope, resonance, span, pass (0 low, 1 high)
  *   oscillator   5   saw, pulse, width, sweep, level

@@ -4,7 +4,7 @@
 pub const BLOCK: usize = 242;
 pub const MIN_STRIP: usize = 2;
 pub const MAX_STRIP: usize = 4096;
-pub const MAX_MARKS: usize = 6;
+pub const MAX_MARKS: usize = 8;
 pub const MAX_SETTINGS: usize = 8;
 pub const GATES: usize = 4;
 pub const TAPS: usize = 4;
@@ -15,6 +15,7 @@ pub const BAD_BLOCK: u32 = 1;
 pub const BAD_CODE: u32 = 2;
 pub const BAD_STRIP: u32 = 3;
 pub const BAD_LEVEL: u32 = 4;
+pub const BAD_TURNS: u32 = 5;
 
 /// Kinds of marks. The first four are captions too.
 pub const MARK_ATTACK: u8 = 0;
@@ -94,6 +95,32 @@ unsafe extern "C" {
     pub fn juvrada_rest(block: *const u8, block_len: usize, code: u32) -> RestResult;
     pub fn juvrada_scale(block: *const u8, block_len: usize, code: u32) -> ScaleResult;
     pub fn juvrada_anchored(block: *const u8, block_len: usize, code: u32) -> AnchoredResult;
+    pub fn juvrada_height_turns(block: *const u8, block_len: usize, code: u32, turns: u32, t: f32) -> HeightResult;
+    pub fn juvrada_strip_turns(
+        block: *const u8,
+        block_len: usize,
+        code: u32,
+        turns: u32,
+        out: *mut f32,
+        out_len: usize,
+    ) -> StripResult;
+    pub fn juvrada_strip_once_turns(
+        block: *const u8,
+        block_len: usize,
+        code: u32,
+        turns: u32,
+        out: *mut f32,
+        out_len: usize,
+    ) -> StripResult;
+    pub fn juvrada_marks_turns(
+        block: *const u8,
+        block_len: usize,
+        code: u32,
+        turns: u32,
+        at: *mut f32,
+        kind: *mut u8,
+    ) -> CountResult;
+    pub fn juvrada_scale_turns(block: *const u8, block_len: usize, code: u32, turns: u32) -> ScaleResult;
     pub fn juvrada_settings(block: *const u8, block_len: usize, code: u32, out: *mut f32) -> CountResult;
     pub fn juvrada_captions(block: *const u8, block_len: usize, code: u32, out: *mut u8, out_len: usize) -> u32;
     pub fn juvrada_gates(block: *const u8, block_len: usize, start: *mut f32, end: *mut f32) -> CountResult;

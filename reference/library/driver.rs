@@ -1,14 +1,18 @@
-//! Compares everything that the static library offers with the unchanged reference: equal bits, NaN with NaN, zero with zero. What the reference
-//! doesn't have is restated here: steps (beside its walk, in answers.rs), strips, captions, which curve bytes end near a level, and refusals; its gates are the bars too.
-//! Every difference is printed with its input.
+//! Compares everything that the static library offers with the reference: equal bits, NaN with NaN, zero with zero. The
+//! reference is unchanged; at eight turns it is the copy that draws as many. What it doesn't have is restated here:
+//! steps (beside its walk, in answers.rs), strips, captions, which curve bytes end near a level, and refusals; its
+//! gates are the bars too. Every difference is printed with its input.
 
-use crate::answers::{
-    self, POSITIONS, READ, Setting, Taps, block, build, kind, neighbours, once_steps, place, scale, slewed, steps_of,
-};
+mod asked;
+mod turns;
+
+use crate::answers::{self, POSITIONS, READ, Setting, Taps, block, build, kind, neighbours, place};
 use crate::generator::{GATES_DRAWN, Generator, arpeggiator_gates};
-use crate::juvrada::{self, BLOCK, CountResult, CurveResult, MAX_MARKS, MAX_SETTINGS, MAX_STRIP, MIN_STRIP, StripResult};
+use crate::juvrada::{self, BLOCK, MAX_MARKS, MAX_SETTINGS, MAX_STRIP, MIN_STRIP};
+use crate::juvrada::{CountResult, CurveResult, StripResult};
 use crate::random::Random;
 use crate::stand_in::Program;
+use asked::{Asked, Curve, Lent, Reference};
 use std::sync::atomic::{AtomicU64, AtomicUsize, Ordering::Relaxed};
 use std::time::{Duration, Instant};
 
@@ -17,54 +21,9 @@ fn agree(ours: f32, theirs: f32) -> bool {
     ours.to_bits() == theirs.to_bits() || ours == theirs || ours.is_nan() && theirs.is_nan()
 }
 
-// ---- what is lent
-
-/// An entry of a lent array. Before the call each holds a value of its own, which no answer is.
-trait Entry: Copy + PartialEq {
-    fn fresh(i: usize) -> Self;
-}
-
-impl Entry for f32 {
-    fn fresh(i: usize) -> Self {
-        f32::from_bits(0x5a00_0000 + i as u32)
-    }
-}
-
-impl Entry for u8 {
-    fn fresh(i: usize) -> Self {
-        0x40 + (i % 64) as u8
-    }
-}
-
-/// A lent array, with entries on either side that nobody may write.
-struct Lent<T>(Vec<T>);
-
-const BESIDE: usize = 8;
-
-impl<T: Entry> Lent<T> {
-    fn new(n: usize) -> Self {
-        Self((0..n + 2 * BESIDE).map(T::fresh).collect())
-    }
-
-    fn pointer(&mut self) -> *mut T {
-        self.0[BESIDE..].as_mut_ptr()
-    }
-
-    fn first(&self, n: usize) -> &[T] {
-        &self.0[BESIDE..BESIDE + n]
-    }
-
-    /// Whether all but the first entries are as they were, those beside the array too.
-    fn kept_from(&self, count: usize) -> bool {
-        let written = BESIDE..BESIDE + count;
-        let kept = |(i, &x): (usize, &T)| written.contains(&i) || x == T::fresh(i);
-        self.0.iter().enumerate().all(kept)
-    }
-}
-
 // ---- counts
 
-const COUNTED: usize = 18;
+const COUNTED: usize = 20;
 
 /// How many of each were compared.
 #[derive(Clone, Copy)]
@@ -86,7 +45,20 @@ enum Counted {
     Curves,
     NoCurves,
     Bends,
+    Unchanged,
     Refusals,
+    TurnsRefusals,
+}
+
+/// Without a number of turns, at six, and at eight.
+const ROWS: usize = 3;
+
+fn row(turns: Option<u32>) -> usize {
+    match turns {
+        None => 0,
+        Some(6) => 1,
+        Some(_) => 2,
+    }
 }
 
 type Find = unsafe extern "C" fn(*const u8, usize, *mut f32, *mut f32) -> CountResult;
@@ -99,7 +71,7 @@ const STRETCHES: [(&str, Find, Counted); 2] = [
 
 /// What all threads share.
 struct Shared {
-    counts: [AtomicU64; COUNTED],
+    counts: [[AtomicU64; COUNTED]; ROWS],
     different: AtomicUsize,
 }
 
@@ -109,19 +81,17 @@ const PRINTED: usize = 40;
 /// What one thread works with.
 struct Work<'a> {
     shared: &'a Shared,
-    counts: [u64; COUNTED],
+    counts: [[u64; COUNTED]; ROWS],
     random: Random,
-}
-
-/// A code's input, as it is printed.
-fn shown(code: usize, program: &Program) -> String {
-    let bytes: Vec<String> = READ[code].iter().map(|&n| format!("{n}: {}", program.0[n])).collect();
-    format!("code {code}, bytes {{{}}}", bytes.join(", "))
 }
 
 impl Work<'_> {
     fn count(&mut self, what: Counted, n: usize) {
-        self.counts[what as usize] += n as u64;
+        self.count_at(None, what, n);
+    }
+
+    fn count_at(&mut self, turns: Option<u32>, what: Counted, n: usize) {
+        self.counts[row(turns)][what as usize] += n as u64;
     }
 
     fn differ(&self, text: impl FnOnce() -> String) {
@@ -131,7 +101,8 @@ impl Work<'_> {
     }
 
     fn flush(&mut self) {
-        for (sum, n) in self.shared.counts.iter().zip(&mut self.counts) {
+        let sums = self.shared.counts.iter().flatten();
+        for (sum, n) in sums.zip(self.counts.iter_mut().flatten()) {
             sum.fetch_add(*n, Relaxed);
             *n = 0;
         }
@@ -139,57 +110,53 @@ impl Work<'_> {
 
     // ---- one comparison each
 
-    fn height(&mut self, code: usize, program: &Program, generator: &Generator, t: f32) {
-        let ours = unsafe { juvrada::juvrada_height(program.0.as_ptr(), BLOCK, code as u32, t) };
-        let (theirs, steps) = (generator.at(t), steps_of(code, program, generator, t));
+    fn height(&mut self, curve: &Curve<impl Reference>, t: f32) {
+        let ours = curve.asked().height(t);
+        let (theirs, steps) = (curve.generator.height(t), curve.steps(t));
         if ours.refusal != 0 || !agree(ours.height, theirs) || ours.steps != steps {
             self.differ(|| {
-                let input = shown(code, program);
-                let (t, b) = (t, t.to_bits());
-                format!("height of {input} at {t} ({b:08x}): {ours:?}, the reference has {theirs}, steps {steps}")
+                let b = t.to_bits();
+                format!("height of {curve} at {t} ({b:08x}): {ours:?}, the reference has {theirs}, steps {steps}")
             });
         }
-        self.count(Counted::Heights, 1);
-        self.count(Counted::Slewed, usize::from(steps > 0));
+        self.count_at(curve.turns, Counted::Heights, 1);
+        self.count_at(curve.turns, Counted::Slewed, usize::from(steps > 0));
     }
 
-    fn settings(&mut self, code: usize, program: &Program, generator: &Generator) {
+    fn settings(&mut self, curve: &Curve<Generator>) {
+        let (code, program) = (curve.code, curve.program);
         let mut lent = Lent::new(MAX_SETTINGS);
         let ours = unsafe { juvrada::juvrada_settings(program.0.as_ptr(), BLOCK, code as u32, lent.pointer()) };
         let number = |setting| match setting {
             Setting::Float(x) => x,
             Setting::Number(n) => f32::from(n),
         };
-        let theirs: Vec<f32> = answers::settings(code, generator).into_iter().map(number).collect();
+        let theirs: Vec<f32> = answers::settings(code, &curve.generator).into_iter().map(number).collect();
         let n = theirs.len();
         let same = lent.first(n).iter().zip(&theirs).all(|(&a, &b)| agree(a, b));
         if !same || ours != accepted(n) || !lent.kept_from(n) {
             let all = lent.first(MAX_SETTINGS);
-            self.differ(|| {
-                let input = shown(code, program);
-                format!("settings of {input}: {ours:?} {all:?}, the reference has {theirs:?}")
-            });
+            self.differ(|| format!("settings of {curve}: {ours:?} {all:?}, the reference has {theirs:?}"));
         }
         self.count(Counted::Settings, n);
     }
 
-    fn marks(&mut self, code: usize, program: &Program, generator: &Generator) {
+    fn marks(&mut self, curve: &Curve<impl Reference>) {
         let (mut at, mut kinds) = (Lent::new(MAX_MARKS), Lent::new(MAX_MARKS));
-        let ours =
-            unsafe { juvrada::juvrada_marks(program.0.as_ptr(), BLOCK, code as u32, at.pointer(), kinds.pointer()) };
-        let n = self.same_marks(generator, ours, &at, &kinds, || shown(code, program));
-        self.count(Counted::Marks, n);
+        let ours = curve.asked().marks(&mut at, &mut kinds);
+        let n = self.same_marks(&curve.generator, ours, &at, &kinds, || curve.to_string());
+        self.count_at(curve.turns, Counted::Marks, n);
     }
 
     fn same_marks(
         &self,
-        generator: &Generator,
+        generator: &impl Reference,
         ours: CountResult,
         at: &Lent<f32>,
         kinds: &Lent<u8>,
         input: impl FnOnce() -> String,
     ) -> usize {
-        let theirs: Vec<(f32, u8)> = generator.marks().map(|mark| (mark.at(), kind(mark.kind()))).collect();
+        let theirs = generator.all_marks();
         let n = theirs.len();
         let same = (0..n).all(|i| agree(at.first(n)[i], theirs[i].0) && kinds.first(n)[i] == theirs[i].1);
         if !same || ours != accepted(n) || !at.kept_from(n) || !kinds.kept_from(n) {
@@ -202,95 +169,96 @@ impl Work<'_> {
         n
     }
 
-    /// Rest, scale and whether it is anchored.
-    fn others(&mut self, code: usize, program: &Program, generator: &Generator) {
-        let (at, byte) = (program.0.as_ptr(), code as u32);
-        let rest = unsafe { juvrada::juvrada_rest(at, BLOCK, byte) };
-        if rest.refusal != 0 || !agree(rest.level, generator.rest()) {
-            self.differ(|| {
-                format!(
-                    "rest of {}: {rest:?}, the reference has {}",
-                    shown(code, program),
-                    generator.rest()
-                )
-            });
-        }
-        let ours = unsafe { juvrada::juvrada_scale(at, BLOCK, byte) };
-        let theirs = scale(generator.scale());
+    fn scale(&mut self, curve: &Curve<impl Reference>) {
+        let (ours, theirs) = (curve.asked().scale(), curve.generator.measure());
         if ours.refusal != 0 || ours.kind != theirs.0 || !agree(ours.number, theirs.1) {
-            self.differ(|| {
-                format!(
-                    "scale of {}: {ours:?}, the reference has {theirs:?}",
-                    shown(code, program)
-                )
-            });
+            self.differ(|| format!("scale of {curve}: {ours:?}, the reference has {theirs:?}"));
         }
-        let ours = unsafe { juvrada::juvrada_anchored(at, BLOCK, byte) };
-        let theirs = generator.anchored();
+        self.count_at(curve.turns, Counted::Others, 1);
+    }
+
+    /// Rest, scale and whether it is anchored.
+    fn others(&mut self, curve: &Curve<Generator>) {
+        let (at, code) = (curve.program.0.as_ptr(), curve.code as u32);
+        let ours = unsafe { juvrada::juvrada_rest(at, BLOCK, code) };
+        let theirs = curve.generator.rest();
+        if ours.refusal != 0 || !agree(ours.level, theirs) {
+            self.differ(|| format!("rest of {curve}: {ours:?}, the reference has {theirs}"));
+        }
+        self.scale(curve);
+        let ours = unsafe { juvrada::juvrada_anchored(at, BLOCK, code) };
+        let theirs = curve.generator.anchored();
         if ours.refusal != 0 || ours.anchored != u32::from(theirs) {
-            self.differ(|| {
-                format!(
-                    "anchored of {}: {ours:?}, the reference has {theirs}",
-                    shown(code, program)
-                )
-            });
+            self.differ(|| format!("anchored of {curve}: {ours:?}, the reference has {theirs}"));
         }
-        self.count(Counted::Others, 3);
+        self.count(Counted::Others, 2);
     }
 
     /// All that a generator says of itself.
-    fn about(&mut self, code: usize, program: &Program, generator: &Generator) {
-        self.settings(code, program, generator);
-        self.marks(code, program, generator);
-        self.others(code, program, generator);
+    fn about(&mut self, curve: &Curve<Generator>) {
+        self.settings(curve);
+        self.marks(curve);
+        self.others(curve);
     }
 
-    fn strip(&mut self, code: usize, program: &Program, generator: &Generator, n: usize) {
+    fn strip(&mut self, curve: &Curve<impl Reference>, n: usize) {
         let mut lent = Lent::new(n);
-        let ours = unsafe { juvrada::juvrada_strip(program.0.as_ptr(), BLOCK, code as u32, lent.pointer(), n) };
+        let ours = curve.asked().strip(&mut lent, n);
         let mut steps = 0;
         for (i, &sample) in lent.first(n).iter().enumerate() {
             let t = sample_position(i, n);
-            let theirs = generator.at(t);
-            steps += steps_of(code, program, generator, t);
+            let theirs = curve.generator.height(t);
+            steps += curve.steps(t);
             if !agree(sample, theirs) {
                 self.differ(|| {
-                    let input = shown(code, program);
-                    format!("sample {i} of a strip of {n} of {input}: {sample}, the reference has {theirs}")
+                    format!("sample {i} of a strip of {n} of {curve}: {sample}, the reference has {theirs}")
                 });
             }
         }
         if ours != (StripResult { refusal: 0, steps }) || !lent.kept_from(n) {
-            self.differ(|| {
-                format!(
-                    "strip of {n} of {}: {ours:?}, the steps are {steps}",
-                    shown(code, program)
-                )
-            });
+            self.differ(|| format!("strip of {n} of {curve}: {ours:?}, the steps are {steps}"));
         }
-        self.strip_once(code, program, generator, lent.first(n));
-        self.count(Counted::Strips, 1);
-        self.count(Counted::Samples, n);
+        self.strip_once(curve, lent.first(n));
+        self.count_at(curve.turns, Counted::Strips, 1);
+        self.count_at(curve.turns, Counted::Samples, n);
     }
 
     /// One walk along the strip leaves what the plain engine left. Its steps are its own.
-    fn strip_once(&mut self, code: usize, program: &Program, generator: &Generator, plain: &[f32]) {
+    fn strip_once(&mut self, curve: &Curve<impl Reference>, plain: &[f32]) {
         let n = plain.len();
         let mut lent = Lent::new(n);
-        let ours = unsafe { juvrada::juvrada_strip_once(program.0.as_ptr(), BLOCK, code as u32, lent.pointer(), n) };
-        let steps = once_steps(code, program, generator, n);
+        let ours = curve.asked().strip_once(&mut lent, n);
+        let steps = curve.once_steps(n);
         let alike = plain.iter().zip(lent.first(n)).all(|(a, b)| a.to_bits() == b.to_bits());
         if ours != (StripResult { refusal: 0, steps }) || !alike || !lent.kept_from(n) {
             self.differ(|| {
-                format!(
-                    "strip of {n} by one walk, of {}: {ours:?}, the steps are {steps}; as the plain engine's: {alike}",
-                    shown(code, program)
-                )
+                let plain = if alike { "as the plain engine's" } else { "not as the plain engine's" };
+                format!("strip of {n} by one walk, of {curve}: {ours:?}, the steps are {steps}; {plain}")
             });
         }
     }
 
-    fn captions(&mut self, code: usize, program: &Program, generator: &Generator, n: usize) {
+    /// At six turns each function answers as the one without turns, bit for bit; at eight too, except sampled shapes.
+    fn unchanged(&mut self, code: usize, program: &Program, t: f32, n: usize) {
+        let words = |turns| Asked::new(&program.0, code as u32, turns).words(t, n);
+        let without = words(None);
+        let sampled = (3..7).contains(&code) && matches!(program.0[READ[code][0]], 5 | 6);
+        for turns in [6, 8] {
+            if turns == 8 && sampled {
+                continue;
+            }
+            if words(Some(turns)) != without {
+                self.differ(|| {
+                    let curve = Curve::new(code, program);
+                    format!("{curve} at {turns} turns, height at {t}, strip of {n}: not as without turns")
+                });
+            }
+            self.count(Counted::Unchanged, without.len());
+        }
+    }
+
+    fn captions(&mut self, curve: &Curve<Generator>, n: usize) {
+        let (code, program) = (curve.code, curve.program);
         let mut lent = Lent::new(n);
         let refusal = unsafe { juvrada::juvrada_captions(program.0.as_ptr(), BLOCK, code as u32, lent.pointer(), n) };
         let by_marks = |i: usize| {
@@ -298,7 +266,7 @@ impl Work<'_> {
                 return 255;
             }
             let t = sample_position(i, n);
-            let before = generator.marks().filter(|mark| mark.at() <= t);
+            let before = curve.generator.marks().filter(|mark| mark.at() <= t);
             before
                 .map(|mark| kind(mark.kind()))
                 .last()
@@ -317,15 +285,12 @@ impl Work<'_> {
             changed += usize::from(caption != former);
             for (what, expected) in [("its marks", marked), ("the list of changes", listed)] {
                 if caption != expected {
-                    self.differ(|| {
-                        let input = shown(code, program);
-                        format!("caption {i} of {n} of {input}: {caption}, expected {expected} by {what}")
-                    });
+                    self.differ(|| format!("caption {i} of {n} of {curve}: {caption}, expected {expected} by {what}"));
                 }
             }
         }
         if refusal != 0 || !lent.kept_from(n) {
-            self.differ(|| format!("{n} captions of {}: refusal {refusal}", shown(code, program)));
+            self.differ(|| format!("{n} captions of {curve}: refusal {refusal}"));
         }
         self.count(Counted::Captions, 1);
         self.count(Counted::Captioned, n);
@@ -405,97 +370,115 @@ impl Work<'_> {
         }
     }
 
-    /// Every function that looks at the block, with input that is refused: the refusal, zeros beside it, and everything lent as it was.
-    fn refused(&mut self, bytes: &[u8], code: u32, n: usize) {
-        let (at, len) = (bytes.as_ptr(), bytes.len());
-        let block = if len != BLOCK { 1 } else { 0 };
-        let curve = if block != 0 {
-            block
-        } else if code > 13 {
-            2
-        } else {
-            0
-        };
-        let strip = if curve != 0 {
-            curve
-        } else if !(MIN_STRIP..=MAX_STRIP).contains(&n) {
-            3
-        } else {
-            0
-        };
-        let mut wrong: Vec<String> = Vec::new();
-        let mut asked = 0;
-        let mut see = |good: bool, text: String| {
-            asked += 1;
-            if !good {
-                wrong.push(text);
-            }
-        };
-        if strip != 0 {
-            let mut out = Lent::new(n);
-            let r = unsafe { juvrada::juvrada_strip(at, len, code, out.pointer(), n) };
-            see(
-                r == StripResult {
-                    refusal: strip,
-                    steps: 0,
-                } && out.kept_from(0),
-                format!("strip {r:?}"),
-            );
-            let r = unsafe { juvrada::juvrada_strip_once(at, len, code, out.pointer(), n) };
-            see(
-                r == StripResult {
-                    refusal: strip,
-                    steps: 0,
-                } && out.kept_from(0),
-                format!("strip by one walk {r:?}"),
-            );
-            let mut out = Lent::new(n);
-            let r = unsafe { juvrada::juvrada_captions(at, len, code, out.pointer(), n) };
-            see(r == strip && out.kept_from(0), format!("captions {r}"));
+    /// Every function that looks at the block, or, with a number of turns, every one that takes it, with input that is
+    /// refused: the refusal, zeros beside it, and everything lent as it was.
+    fn refused(&mut self, asked: Asked, n: usize) {
+        let block = (asked.bytes.len() != BLOCK, 1);
+        let code = (asked.code > 13, 2);
+        let turns = (asked.turns.is_some_and(|turns| turns != 6 && turns != 8), 5);
+        let length = (!(MIN_STRIP..=MAX_STRIP).contains(&n), 3);
+        let first = |checks: &[(bool, u32)]| checks.iter().find(|check| check.0).map(|check| check.1);
+        let mut refused = Refused::new(asked, n);
+        if let Some(refusal) = first(&[block, code, turns, length]) {
+            refused.strips(refusal);
         }
-        let none = |refusal| CountResult { refusal, count: 0 };
-        if curve != 0 {
-            let t = self.random.unit();
-            let r = unsafe { juvrada::juvrada_height(at, len, code, t) };
-            see(
-                (r.refusal, r.steps, r.height.to_bits()) == (curve, 0, 0),
-                format!("height {r:?}"),
-            );
-            let (mut places, mut kinds) = (Lent::new(MAX_MARKS), Lent::new(MAX_MARKS));
-            let r = unsafe { juvrada::juvrada_marks(at, len, code, places.pointer(), kinds.pointer()) };
-            see(
-                r == none(curve) && places.kept_from(0) && kinds.kept_from(0),
-                format!("marks {r:?}"),
-            );
-            let r = unsafe { juvrada::juvrada_rest(at, len, code) };
-            see((r.refusal, r.level.to_bits()) == (curve, 0), format!("rest {r:?}"));
-            let r = unsafe { juvrada::juvrada_scale(at, len, code) };
-            see(
-                (r.refusal, r.kind, r.number.to_bits()) == (curve, 0, 0),
-                format!("scale {r:?}"),
-            );
-            let r = unsafe { juvrada::juvrada_anchored(at, len, code) };
-            see((r.refusal, r.anchored) == (curve, 0), format!("anchored {r:?}"));
-            let mut out = Lent::new(MAX_SETTINGS);
-            let r = unsafe { juvrada::juvrada_settings(at, len, code, out.pointer()) };
-            see(r == none(curve) && out.kept_from(0), format!("settings {r:?}"));
+        if let Some(refusal) = first(&[block, code, turns]) {
+            refused.curves(refusal, self.random.unit());
         }
-        if block != 0 {
-            for (what, find, _) in STRETCHES {
-                let (mut start, mut end) = (Lent::new(GATES_DRAWN), Lent::new(GATES_DRAWN));
-                let r = unsafe { find(at, len, start.pointer(), end.pointer()) };
-                see(
-                    r == none(block) && start.kept_from(0) && end.kept_from(0),
-                    format!("{what} {r:?}"),
-                );
-            }
+        if let (None, Some(refusal)) = (asked.turns, first(&[block])) {
+            refused.stretches(refusal);
         }
-        for text in wrong {
+        for text in &refused.wrong {
+            let (len, code, turns) = (asked.bytes.len(), asked.code, asked.turns);
             self.differ(|| {
-                format!("refusal of a block of {len}, code {code}, {n} samples: {text}, or what was lent is written to")
+                let input = format!("a block of {len}, code {code}, turns {turns:?}, {n} samples");
+                format!("refusal of {input}: {text}, or what was lent is written to")
             });
         }
-        self.count(Counted::Refusals, asked);
+        let counted = if asked.turns.is_none() { Counted::Refusals } else { Counted::TurnsRefusals };
+        self.count(counted, refused.calls);
+    }
+}
+
+/// Calls that are refused: what is asked with, the samples of a strip, how many calls were made, and what was wrong.
+struct Refused<'a> {
+    asked: Asked<'a>,
+    n: usize,
+    calls: usize,
+    wrong: Vec<String>,
+}
+
+impl<'a> Refused<'a> {
+    fn new(asked: Asked<'a>, n: usize) -> Self {
+        Self {
+            asked,
+            n,
+            calls: 0,
+            wrong: Vec::new(),
+        }
+    }
+
+    fn see(&mut self, good: bool, text: String) {
+        self.calls += 1;
+        if !good {
+            self.wrong.push(text);
+        }
+    }
+
+    /// What has a length.
+    fn strips(&mut self, refusal: u32) {
+        let (asked, n) = (self.asked, self.n);
+        let none = StripResult { refusal, steps: 0 };
+        let mut out = Lent::new(n);
+        let r = asked.strip(&mut out, n);
+        self.see(r == none && out.kept_from(0), format!("strip {r:?}"));
+        let r = asked.strip_once(&mut out, n);
+        self.see(r == none && out.kept_from(0), format!("strip by one walk {r:?}"));
+        if asked.turns.is_some() {
+            return;
+        }
+        let mut out = Lent::new(n);
+        let (at, len) = (asked.bytes.as_ptr(), asked.bytes.len());
+        let r = unsafe { juvrada::juvrada_captions(at, len, asked.code, out.pointer(), n) };
+        self.see(r == refusal && out.kept_from(0), format!("captions {r}"));
+    }
+
+    /// What takes a code and has no length.
+    fn curves(&mut self, refusal: u32, t: f32) {
+        let asked = self.asked;
+        let none = CountResult { refusal, count: 0 };
+        let r = asked.height(t);
+        let good = (r.refusal, r.steps, r.height.to_bits()) == (refusal, 0, 0);
+        self.see(good, format!("height {r:?}"));
+        let (mut places, mut kinds) = (Lent::new(MAX_MARKS), Lent::new(MAX_MARKS));
+        let r = asked.marks(&mut places, &mut kinds);
+        let good = r == none && places.kept_from(0) && kinds.kept_from(0);
+        self.see(good, format!("marks {r:?}"));
+        let r = asked.scale();
+        let good = (r.refusal, r.kind, r.number.to_bits()) == (refusal, 0, 0);
+        self.see(good, format!("scale {r:?}"));
+        if asked.turns.is_some() {
+            return;
+        }
+        let (at, len, code) = (asked.bytes.as_ptr(), asked.bytes.len(), asked.code);
+        let r = unsafe { juvrada::juvrada_rest(at, len, code) };
+        self.see((r.refusal, r.level.to_bits()) == (refusal, 0), format!("rest {r:?}"));
+        let r = unsafe { juvrada::juvrada_anchored(at, len, code) };
+        self.see((r.refusal, r.anchored) == (refusal, 0), format!("anchored {r:?}"));
+        let mut out = Lent::new(MAX_SETTINGS);
+        let r = unsafe { juvrada::juvrada_settings(at, len, code, out.pointer()) };
+        self.see(r == none && out.kept_from(0), format!("settings {r:?}"));
+    }
+
+    /// The gates and the bars, which take a block alone.
+    fn stretches(&mut self, refusal: u32) {
+        let (at, len) = (self.asked.bytes.as_ptr(), self.asked.bytes.len());
+        for (what, find, _) in STRETCHES {
+            let (mut start, mut end) = (Lent::new(GATES_DRAWN), Lent::new(GATES_DRAWN));
+            let r = unsafe { find(at, len, start.pointer(), end.pointer()) };
+            let good = r == CountResult { refusal, count: 0 } && start.kept_from(0) && end.kept_from(0);
+            self.see(good, format!("{what} {r:?}"));
+        }
     }
 }
 
@@ -557,14 +540,14 @@ fn drawn_block(random: &mut Random) -> Program {
 }
 
 /// Positions of every kind, every mark and its neighbours, places where a walk takes a step more, and some at random.
-fn positions(random: &mut Random, code: usize, program: &Program, generator: &Generator, drawn: usize) -> Vec<u32> {
+fn positions(random: &mut Random, curve: &Curve<impl Reference>, drawn: usize) -> Vec<u32> {
     let mut all = POSITIONS.to_vec();
-    for mark in generator.marks() {
-        let b = mark.at().to_bits();
+    for (at, _) in curve.generator.all_marks() {
+        let b = at.to_bits();
         all.extend([b.wrapping_sub(1), b, b.wrapping_add(1)]);
     }
-    if slewed(code, program) {
-        let turns = scale(generator.scale()).1;
+    if curve.slewed() {
+        let turns = curve.generator.measure().1;
         for _ in 0..2 {
             let count = 96 + random.below(96 * turns as usize) as u16;
             all.extend(neighbours(place(count) / turns));
@@ -595,10 +578,10 @@ fn every_value(work: &mut Work, code: usize, column: usize) {
         for _ in 0..6 {
             let mut program = drawn_block(&mut work.random);
             program.0[READ[code][column]] = value;
-            let generator = build(code, &program);
-            work.about(code, &program, &generator);
-            for b in positions(&mut work.random, code, &program, &generator, 6) {
-                work.height(code, &program, &generator, f32::from_bits(b));
+            let curve = Curve::new(code, &program);
+            work.about(&curve);
+            for b in positions(&mut work.random, &curve, 6) {
+                work.height(&curve, f32::from_bits(b));
             }
         }
     }
@@ -607,11 +590,11 @@ fn every_value(work: &mut Work, code: usize, column: usize) {
 /// A generator of these bytes, what it says of itself, and some heights.
 fn one(work: &mut Work, code: usize, bytes: &[u8], heights: usize) {
     let program = block(&mut work.random, READ[code], bytes);
-    let generator = build(code, &program);
-    work.about(code, &program, &generator);
+    let curve = Curve::new(code, &program);
+    work.about(&curve);
     for _ in 0..heights {
         let t = work.random.unit();
-        work.height(code, &program, &generator, t);
+        work.height(&curve, t);
     }
 }
 
@@ -621,36 +604,38 @@ fn every_slew(work: &mut Work, code: usize, shape: u8) {
         let bytes = [shape, work.random.byte() & 1, slew];
         one(work, code, &bytes, 12);
         let program = block(&mut work.random, READ[code], &bytes);
-        work.strip(code, &program, &build(code, &program), 33);
+        work.strip(&Curve::new(code, &program), 33);
     }
 }
 
 /// All that is offered, of every code of a random block.
 fn whole_block(work: &mut Work, program: &Program) {
     for code in 0..14 {
-        let generator = build(code, program);
-        work.about(code, program, &generator);
-        for b in positions(&mut work.random, code, program, &generator, 4) {
-            work.height(code, program, &generator, f32::from_bits(b));
+        let curve = Curve::new(code, program);
+        work.about(&curve);
+        for b in positions(&mut work.random, &curve, 4) {
+            work.height(&curve, f32::from_bits(b));
         }
         let n = drawn_length(&mut work.random);
-        work.strip(code, program, &generator, n);
-        work.captions(code, program, &generator, n);
+        work.strip(&curve, n);
+        work.captions(&curve, n);
     }
     work.gates(program);
 }
 
+const LENGTHS: [usize; 9] = [2, 3, 4, 63, 64, 511, 512, 4095, 4096];
+
 /// Strips and captions of telling lengths.
 fn lengths(work: &mut Work, code: usize, slew: Option<u8>, shape: u8) {
-    for n in [2, 3, 4, 63, 64, 511, 512, 4095, 4096] {
+    for n in LENGTHS {
         let mut program = drawn_block(&mut work.random);
         if let Some(slew) = slew {
             program.0[READ[code][0]] = shape;
             program.0[READ[code][2]] = slew;
         }
-        let generator = build(code, &program);
-        work.strip(code, &program, &generator, n);
-        work.captions(code, &program, &generator, n);
+        let curve = Curve::new(code, &program);
+        work.strip(&curve, n);
+        work.captions(&curve, n);
     }
 }
 
@@ -660,15 +645,17 @@ fn starts(work: &mut Work, code: usize, attack: u8) {
         for release in [0, work.random.byte()] {
             let program = block(&mut work.random, &READ[code][..4], &[attack, decay, 200, release]);
             for n in [MIN_STRIP, 65, 501] {
-                work.captions(code, &program, &build(code, &program), n);
+                work.captions(&Curve::new(code, &program), n);
             }
         }
     }
 }
 
+/// The bits between two positions of a sweep.
+const STRIDE: usize = 1021;
+
 /// Positions from 0 to 1 at an even distance of bits, 8 blocks in turn. LFOs have slew 0.
 fn sweep(work: &mut Work, code: usize) {
-    const STRIDE: usize = 1021;
     let programs: Vec<Program> = (0..8)
         .map(|_| {
             let mut program = drawn_block(&mut work.random);
@@ -677,10 +664,9 @@ fn sweep(work: &mut Work, code: usize) {
             program
         })
         .collect();
-    let generators: Vec<Generator> = programs.iter().map(|program| build(code, program)).collect();
+    let curves: Vec<_> = programs.iter().map(|program| Curve::new(code, program)).collect();
     for (i, b) in (0..=0x3f80_0000u32).step_by(STRIDE).enumerate() {
-        let i = i % programs.len();
-        work.height(code, &programs[i], &generators[i], f32::from_bits(b));
+        work.height(&curves[i % curves.len()], f32::from_bits(b));
     }
 }
 
@@ -690,7 +676,7 @@ fn refusals(work: &mut Work) {
         // What is no byte is refused too, and not read by its low byte.
         for code in (0..=255).chain([256, 257, 269, 512, 0x1_0000, 0x100_0003, u32::MAX]) {
             for n in [0, 1, 2, 4096, 4097, 5000] {
-                work.refused(&bytes[..len], code, n);
+                work.refused(Asked::new(&bytes[..len], code, None), n);
             }
         }
     }
@@ -717,11 +703,11 @@ fn wanted(work: &mut Work, sustain: u8) {
 fn refusal_ends(work: &mut Work) {
     let bytes = work.random.bytes(600);
     for len in 0..=600 {
-        work.refused(&bytes[..len], (len % 20) as u32, 100);
+        work.refused(Asked::new(&bytes[..len], (len % 20) as u32, None), 100);
     }
     for n in (0..=20).chain(4080..=4200) {
         for code in 0..14 {
-            work.refused(&bytes[..BLOCK], code, n);
+            work.refused(Asked::new(&bytes[..BLOCK], code, None), n);
         }
     }
 }
@@ -813,6 +799,8 @@ fn jobs() -> Vec<Job> {
         }
     }
     all.push(Box::new(|work| (0..=255).for_each(|curve| work.bend(curve))));
+    // These stand last, so that the others draw the numbers that they drew without them.
+    all.extend(turns::jobs());
     all
 }
 
@@ -829,11 +817,32 @@ fn grouped(n: u64) -> String {
     digits.chars().enumerate().flat_map(group).collect()
 }
 
+fn print_counts(shared: &Shared) {
+    use Counted::*;
+    let at = |turns, what: Counted| grouped(shared.counts[row(turns)][what as usize].load(Relaxed));
+    let of = |what| at(None, what);
+    println!("heights {}, of them slewed {}", of(Heights), of(Slewed));
+    let (samples, strips, captioned, captions) = (of(Samples), of(Strips), of(Captioned), of(Captions));
+    println!("samples {samples} of {strips} strips, captions {captioned} of {captions}, changed {}", of(Changed));
+    println!("settings {}, marks {}, rest, scale, anchored {}", of(Settings), of(Marks), of(Others));
+    let (heights, marks) = (of(TapHeights), of(TapMarks));
+    println!("gates {}, bars {}, taps: heights {heights}, marks {marks}", of(Gates), of(Bars));
+    println!("curve bytes {}, none {}, bends {}", of(Curves), of(NoCurves), of(Bends));
+    for turns in [6, 8] {
+        let of = |what| at(Some(turns), what);
+        let (heights, slewed, samples, strips) = (of(Heights), of(Slewed), of(Samples), of(Strips));
+        print!("at {turns} turns: heights {heights}, of them slewed {slewed}, samples {samples} of {strips} strips, ");
+        println!("marks {}, scales {}", of(Marks), of(Others));
+    }
+    println!("words that are the same with turns and without {}", of(Unchanged));
+    println!("refusals {}, and where turns are taken {}", of(Refusals), of(TurnsRefusals));
+}
+
 pub fn run() {
     let started = Instant::now();
     let jobs = jobs();
     let shared = Shared {
-        counts: [const { AtomicU64::new(0) }; COUNTED],
+        counts: [const { [const { AtomicU64::new(0) }; COUNTED] }; ROWS],
         different: AtomicUsize::new(0),
     };
     let (taken, done) = (AtomicUsize::new(0), AtomicUsize::new(0));
@@ -846,7 +855,7 @@ pub fn run() {
                     let Some(job) = jobs.get(i) else { break };
                     let mut work = Work {
                         shared: &shared,
-                        counts: [0; COUNTED],
+                        counts: [[0; COUNTED]; ROWS],
                         // A job's numbers don't hang on which thread takes it.
                         random: Random((i as u64 + 1) << 32),
                     };
@@ -867,33 +876,7 @@ pub fn run() {
         // There is enough to look at: no further part is begun.
         taken.store(jobs.len(), Relaxed);
     });
-    let of = |what: Counted| grouped(shared.counts[what as usize].load(Relaxed));
-    use Counted::{Bars, Bends, Captioned, Captions, Changed, Curves, Gates, Heights, Marks, NoCurves, Others, Refusals, Samples};
-    use Counted::{Settings, Slewed, Strips, TapHeights, TapMarks};
-    println!("heights {}, of them slewed {}", of(Heights), of(Slewed));
-    println!(
-        "samples {} of {} strips, captions {} of {}, changed {}",
-        of(Samples),
-        of(Strips),
-        of(Captioned),
-        of(Captions),
-        of(Changed)
-    );
-    println!(
-        "settings {}, marks {}, rest, scale, anchored {}",
-        of(Settings),
-        of(Marks),
-        of(Others)
-    );
-    println!(
-        "gates {}, bars {}, taps: heights {}, marks {}",
-        of(Gates),
-        of(Bars),
-        of(TapHeights),
-        of(TapMarks)
-    );
-    println!("curve bytes {}, none {}, bends {}", of(Curves), of(NoCurves), of(Bends));
-    println!("refusals {}", of(Refusals));
+    print_counts(&shared);
     let different = shared.different.load(Relaxed);
     println!(
         "different {different} ({:.0} s, {threads} threads)",

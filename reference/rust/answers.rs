@@ -1,8 +1,9 @@
-//! The reference's answers, as numbers: its generators by their codes, what each says of itself, and the steps of a slew walk.
+//! The reference's answers, as numbers: its generators by their codes, what each says of itself, and the steps of a
+//! slew walk. The reference is the module `generator` beside this one: unchanged, or the copy with eight turns.
 
-use crate::generator::{
+use super::generator::{
     EnvelopeId, Generator, LfoId, MarkKind, OscillatorId, Scale, Segment, envelope, filter_response,
-    high_pass_response, lfo, lfo_fade, lfo_unipolar, noise, oscillator,
+    high_pass_response, lfo, lfo_fade, lfo_unipolar, noise, oscillator, taps,
 };
 use crate::random::Random;
 use crate::stand_in::{BLOCK, Program};
@@ -141,6 +142,11 @@ pub fn kind(kind: MarkKind) -> u8 {
     }
 }
 
+/// Where the marks lie, and their kinds.
+pub fn marks(generator: &Generator) -> Vec<(f32, u8)> {
+    generator.marks().map(|mark| (mark.at(), kind(mark.kind()))).collect()
+}
+
 /// 0 normalised, 1 turns, 2 octaves, and the scale's number, 0 where it has none.
 pub fn scale(scale: Scale) -> (u32, f32) {
     match scale {
@@ -173,10 +179,16 @@ pub fn steps_of(code: usize, program: &Program, generator: &Generator, t: f32) -
     }
 }
 
-/// The steps of one walk along a strip of n samples: the full ones short of the last phase, which is one turn or six, and a cut one for each sample.
-pub fn once_steps(code: usize, program: &Program, generator: &Generator, n: usize) -> u32 {
-    let full = if scale(generator.scale()).1 == 1.0 { 191 } else { 671 };
-    if slewed(code, program) { full + n as u32 } else { 0 }
+/// The steps of one walk along a slewed LFO's strip of n samples: the full ones short of the last phase, which is one
+/// turn, six or eight, and a cut one for each sample.
+pub fn once_steps(turns: f32, n: usize) -> u32 {
+    let full = match turns {
+        1.0 => 191,
+        6.0 => 671,
+        8.0 => 863,
+        _ => panic!("a strip of {turns} turns"),
+    };
+    full + n as u32
 }
 
 /// Positions of every kind.
@@ -244,7 +256,7 @@ pub struct Taps {
 impl Taps {
     pub fn generator(&self) -> Generator {
         let pairs = std::array::from_fn(|i| (self.at[i], self.tall[i]));
-        crate::generator::taps(pairs, self.used as usize)
+        taps(pairs, self.used as usize)
     }
 
     /// One that is drawn: each number is usual, or now and then of another kind.

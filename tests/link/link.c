@@ -80,13 +80,14 @@ static void strips_once(void) {
 }
 
 static void marks(void) {
-    float at[JUVRADA_MAX_MARKS] = {9.0f, 9.0f, 9.0f, 9.0f, 9.0f, 9.0f};
-    uint8_t kind[JUVRADA_MAX_MARKS] = {9, 9, 9, 9, 9, 9};
+    float at[JUVRADA_MAX_MARKS] = {9.0f, 9.0f, 9.0f, 9.0f, 9.0f, 9.0f, 9.0f, 9.0f};
+    uint8_t kind[JUVRADA_MAX_MARKS] = {9, 9, 9, 9, 9, 9, 9, 9};
     juvrada_count_result r = juvrada_marks(block, sizeof block, 0, at, kind);
     EXPECT(r.refusal == JUVRADA_ACCEPTED && r.count == 4);
-    EXPECT(at[0] == 0.0f && at[1] == 0.0f && at[2] == 0.0f && at[3] == 1.0f && at[4] == 9.0f && at[5] == 9.0f);
+    EXPECT(at[0] == 0.0f && at[1] == 0.0f && at[2] == 0.0f && at[3] == 1.0f);
     EXPECT(kind[0] == JUVRADA_MARK_ATTACK && kind[1] == JUVRADA_MARK_DECAY && kind[2] == JUVRADA_MARK_SUSTAIN);
-    EXPECT(kind[3] == JUVRADA_MARK_RELEASE && kind[4] == 9 && kind[5] == 9);
+    EXPECT(kind[3] == JUVRADA_MARK_RELEASE);
+    for (size_t i = 4; i < JUVRADA_MAX_MARKS; i++) EXPECT(at[i] == 9.0f && kind[i] == 9);
     r = juvrada_marks(block, 243, 0, at, kind);
     EXPECT(r.refusal == JUVRADA_BAD_BLOCK && r.count == 0 && at[3] == 1.0f && kind[3] == JUVRADA_MARK_RELEASE);
 }
@@ -102,6 +103,108 @@ static void others(void) {
     EXPECT(anchored.refusal == JUVRADA_ACCEPTED && anchored.anchored == 0);
     anchored = juvrada_anchored(block, sizeof block, 255);
     EXPECT(anchored.refusal == JUVRADA_BAD_CODE && anchored.anchored == 0);
+}
+
+/* At a number of turns: of sample and hold that many are drawn, of a triangle one. */
+static void heights_turns(void) {
+    block[2] = 5;
+    juvrada_height_result r = juvrada_height_turns(block, sizeof block, 3, 8, 1.0f);
+    EXPECT(r.refusal == JUVRADA_ACCEPTED && r.steps == 0 && r.height == 0.72f);
+    r = juvrada_height_turns(block, sizeof block, 5, 8, 0.125f);
+    EXPECT(r.refusal == JUVRADA_ACCEPTED && r.steps == 0 && r.height == 0.18f);
+    r = juvrada_height_turns(block, sizeof block, 3, 6, 1.0f);
+    EXPECT(r.refusal == JUVRADA_ACCEPTED && r.steps == 0 && r.height == 0.31f);
+    block[6] = 1;
+    EXPECT(juvrada_height_turns(block, sizeof block, 3, 8, 0.0f).steps == 96);
+    EXPECT(juvrada_height_turns(block, sizeof block, 3, 8, 1.0f).steps == 864);
+    EXPECT(juvrada_height_turns(block, sizeof block, 3, 6, 1.0f).steps == 672);
+    block[2] = 1;
+    EXPECT(juvrada_height_turns(block, sizeof block, 3, 8, 1.0f).steps == 192);
+    block[2] = block[6] = 0;
+}
+
+typedef juvrada_strip_result engine(const uint8_t *, size_t, uint32_t, uint32_t, float *, size_t);
+static engine *const engines[] = {juvrada_strip_turns, juvrada_strip_once_turns};
+
+static void strips_turns(void) {
+    static const float six[5] = {0.72f, 0.18f, 0.41f, 0.08f, 0.31f}, eight[5] = {0.72f, 0.95f, 0.08f, 0.31f, 0.72f};
+    float out[6] = {9.0f, 9.0f, 9.0f, 9.0f, 9.0f, 9.0f};
+    block[9] = 5;
+    for (size_t e = 0; e < 2; e++) {
+        juvrada_strip_result r = engines[e](block, sizeof block, 4, 6, out, 5);
+        EXPECT(r.refusal == JUVRADA_ACCEPTED && r.steps == 0);
+        EXPECT(memcmp(out, six, sizeof six) == 0 && out[5] == 9.0f);
+        r = engines[e](block, sizeof block, 4, 8, out, 5);
+        EXPECT(r.refusal == JUVRADA_ACCEPTED && r.steps == 0);
+        EXPECT(memcmp(out, eight, sizeof eight) == 0 && out[5] == 9.0f);
+    }
+    /* The steps with slew: of each sample by itself, and of one walk. */
+    static const uint32_t plain[3] = {192, 672, 864}, once[3] = {191, 671, 863};
+    static float samples[2][JUVRADA_MAX_STRIP];
+    for (unsigned i = 0; i < 3; i++) {
+        uint32_t turns = i == 1 ? 6 : 8;
+        block[9] = i == 0 ? 4 : 6;
+        block[13] = 200;
+        EXPECT(juvrada_strip_turns(block, sizeof block, 6, turns, samples[0], 2).steps == 96 + plain[i]);
+        for (size_t e = 0; e < 2; e++) {
+            juvrada_strip_result r = engines[e](block, sizeof block, 6, turns, samples[e], 4000);
+            EXPECT(r.refusal == JUVRADA_ACCEPTED && (e == 0 || r.steps == once[i] + 4000));
+        }
+        EXPECT(memcmp(samples[0], samples[1], 4000 * sizeof(float)) == 0);
+    }
+    block[9] = block[13] = 0;
+}
+
+static void marks_turns(void) {
+    float at[JUVRADA_MAX_MARKS] = {9.0f, 9.0f, 9.0f, 9.0f, 9.0f, 9.0f, 9.0f, 9.0f};
+    uint8_t kind[JUVRADA_MAX_MARKS] = {9, 9, 9, 9, 9, 9, 9, 9};
+    block[2] = 6;
+    for (uint32_t turns = 6; turns <= 8; turns += 2) {
+        juvrada_count_result r = juvrada_marks_turns(block, sizeof block, 3, turns, at, kind);
+        EXPECT(r.refusal == JUVRADA_ACCEPTED && r.count == turns);
+        for (uint32_t c = 1; c <= turns; c++)
+            EXPECT(at[c - 1] == (float)c / (float)turns && kind[c - 1] == JUVRADA_MARK_CYCLE);
+        for (uint32_t c = turns; c < JUVRADA_MAX_MARKS; c++) EXPECT(at[c] == 9.0f && kind[c] == 9);
+        juvrada_scale_result scale = juvrada_scale_turns(block, sizeof block, 3, turns);
+        EXPECT(scale.refusal == JUVRADA_ACCEPTED && scale.kind == JUVRADA_SCALE_TURNS && scale.number == (float)turns);
+        scale = juvrada_scale_turns(block, sizeof block, 4, turns);
+        EXPECT(scale.refusal == JUVRADA_ACCEPTED && scale.kind == JUVRADA_SCALE_TURNS && scale.number == 1.0f);
+    }
+    block[2] = 0;
+}
+
+/* A block of this length, a code, a number of turns and a strip that the functions with turns refuse. */
+static void refused(size_t len, uint32_t code, uint32_t turns, size_t n, uint32_t refusal) {
+    float out[2] = {9.0f, 9.0f}, at[JUVRADA_MAX_MARKS] = {9.0f};
+    uint8_t kind[JUVRADA_MAX_MARKS] = {9};
+    for (size_t e = 0; e < 2; e++) {
+        juvrada_strip_result r = engines[e](block, len, code, turns, out, n);
+        EXPECT(r.refusal == refusal && r.steps == 0 && out[0] == 9.0f && out[1] == 9.0f);
+    }
+    if (refusal == JUVRADA_BAD_STRIP)
+        return;
+    juvrada_height_result h = juvrada_height_turns(block, len, code, turns, 1.0f);
+    EXPECT(h.refusal == refusal && h.steps == 0 && h.height == 0.0f);
+    juvrada_count_result c = juvrada_marks_turns(block, len, code, turns, at, kind);
+    EXPECT(c.refusal == refusal && c.count == 0 && at[0] == 9.0f && kind[0] == 9);
+    for (size_t i = 1; i < JUVRADA_MAX_MARKS; i++) EXPECT(at[i] == 0.0f && kind[i] == 0);
+    juvrada_scale_result s = juvrada_scale_turns(block, len, code, turns);
+    EXPECT(s.refusal == refusal && s.kind == 0 && s.number == 0.0f);
+}
+
+static void refusals_turns(void) {
+    /* The block, the code, the turns, the strip. */
+    refused(241, 14, 7, 1, JUVRADA_BAD_BLOCK);
+    refused(sizeof block, 14, 7, 1, JUVRADA_BAD_CODE);
+    refused(sizeof block, 3, 7, 1, JUVRADA_BAD_TURNS);
+    refused(sizeof block, 3, 8, 1, JUVRADA_BAD_STRIP);
+    refused(sizeof block, 3, 6, 0, JUVRADA_BAD_STRIP);
+    /* An envelope has no turns, and they are refused all the same. */
+    refused(sizeof block, 0, 7, 1, JUVRADA_BAD_TURNS);
+    refused(sizeof block, 0, 8, 1, JUVRADA_BAD_STRIP);
+    /* A number that is no byte is not read as its low byte. */
+    static const uint32_t turns[] = {0, 1, 5, 7, 9, 262, 264, UINT32_MAX};
+    for (size_t i = 0; i < sizeof turns / sizeof *turns; i++) refused(sizeof block, 3, turns[i], 2, JUVRADA_BAD_TURNS);
 }
 
 static void settings(void) {
@@ -205,8 +308,8 @@ static void bends(void) {
 
 static void taps(void) {
     static const float at[JUVRADA_TAPS] = {0.5f, 0.25f, 0.0f, 0.0f}, tall[JUVRADA_TAPS] = {0.75f, 0.5f, 1.0f, 1.0f};
-    float mark_at[JUVRADA_MAX_MARKS] = {9.0f, 9.0f, 9.0f, 9.0f, 9.0f, 9.0f};
-    uint8_t kind[JUVRADA_MAX_MARKS] = {9, 9, 9, 9, 9, 9};
+    float mark_at[JUVRADA_MAX_MARKS] = {9.0f, 9.0f, 9.0f, 9.0f, 9.0f, 9.0f, 9.0f, 9.0f};
+    uint8_t kind[JUVRADA_MAX_MARKS] = {9, 9, 9, 9, 9, 9, 9, 9};
     juvrada_height_result h = juvrada_taps_height(at, tall, 2, 0.5f);
     EXPECT(h.refusal == JUVRADA_ACCEPTED && h.steps == 0 && h.height == 0.75f);
     EXPECT(juvrada_taps_height(at, tall, 2, 0.0f).height == 0.0f);
@@ -222,6 +325,10 @@ int main(void) {
     strips_once();
     marks();
     others();
+    heights_turns();
+    strips_turns();
+    marks_turns();
+    refusals_turns();
     settings();
     captions();
     gates(juvrada_gates);

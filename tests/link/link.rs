@@ -48,7 +48,10 @@ fn main() {
     let (mut at, mut kind) = ([9.0; MAX_MARKS], [9; MAX_MARKS]);
     let r = unsafe { juvrada_marks(block.as_ptr(), BLOCK, 9, at.as_mut_ptr(), kind.as_mut_ptr()) };
     assert_eq!((r.refusal, r.count), (ACCEPTED, 1));
-    assert_eq!((at, kind), ([0.5, 9.0, 9.0, 9.0, 9.0, 9.0], [MARK_CORNER, 9, 9, 9, 9, 9]));
+    assert_eq!(
+        (at, kind),
+        ([0.5, 9.0, 9.0, 9.0, 9.0, 9.0, 9.0, 9.0], [MARK_CORNER, 9, 9, 9, 9, 9, 9, 9])
+    );
 
     let r = unsafe { juvrada_rest(block.as_ptr(), BLOCK, 3) };
     assert_eq!((r.refusal, r.level), (ACCEPTED, 0.5));
@@ -110,7 +113,74 @@ fn main() {
     let r = unsafe { juvrada_taps_marks(taps.as_ptr(), tall.as_ptr(), 2, at.as_mut_ptr(), kind.as_mut_ptr()) };
     assert_eq!(
         (r.refusal, r.count, at[0], at[2], kind),
-        (ACCEPTED, 2, 0.5, 9.0, [MARK_TAP, MARK_TAP, 9, 9, 9, 9])
+        (ACCEPTED, 2, 0.5, 9.0, [MARK_TAP, MARK_TAP, 9, 9, 9, 9, 9, 9])
     );
     assert!(at[1].is_nan());
+
+    block = [0; BLOCK];
+    at_turns(&mut block);
+    refused_turns(&block);
+}
+
+/// Sample and hold at a number of turns, without slew and with it.
+fn at_turns(block: &mut [u8; BLOCK]) {
+    block[2] = 5;
+    let height = |block: &[u8; BLOCK], turns: u32, t: f32| unsafe {
+        let r = juvrada_height_turns(block.as_ptr(), BLOCK, 3, turns, t);
+        (r.refusal, r.steps, r.height.to_bits())
+    };
+    assert_eq!(height(block, 8, 1.0), (ACCEPTED, 0, 0x3f38_51ec));
+    assert_eq!(height(block, 6, 1.0), (ACCEPTED, 0, 0.31f32.to_bits()));
+    for (turns, cycles) in [(6, 6.0), (8, 8.0)] {
+        let (mut at, mut kind) = ([9.0; MAX_MARKS], [9; MAX_MARKS]);
+        let r = unsafe { juvrada_marks_turns(block.as_ptr(), BLOCK, 5, turns, at.as_mut_ptr(), kind.as_mut_ptr()) };
+        assert_eq!((r.refusal, r.count), (ACCEPTED, turns));
+        for i in 0..MAX_MARKS {
+            let mark = if i < turns as usize { ((i + 1) as f32 / cycles, MARK_CYCLE) } else { (9.0, 9) };
+            assert_eq!((at[i], kind[i]), mark);
+        }
+        let r = unsafe { juvrada_scale_turns(block.as_ptr(), BLOCK, 3, turns) };
+        assert_eq!((r.refusal, r.kind, r.number), (ACCEPTED, SCALE_TURNS, cycles));
+        let r = unsafe { juvrada_scale_turns(block.as_ptr(), BLOCK, 9, turns) };
+        assert_eq!((r.refusal, r.kind, r.number), (ACCEPTED, SCALE_OCTAVES, 6.0));
+    }
+    block[6] = 1;
+    assert_eq!([0.0, 1.0].map(|t| height(block, 8, t).1), [96, 864]);
+    let (mut strip, mut once) = ([9.0; 6], [9.0; 6]);
+    for (turns, each, walked) in [(6, 96 + 240 + 384 + 528 + 672, 671 + 5), (8, 96 + 288 + 480 + 672 + 864, 863 + 5)] {
+        let r = unsafe { juvrada_strip_turns(block.as_ptr(), BLOCK, 3, turns, strip.as_mut_ptr(), 5) };
+        assert_eq!((r.refusal, r.steps), (ACCEPTED, each));
+        let r = unsafe { juvrada_strip_once_turns(block.as_ptr(), BLOCK, 3, turns, once.as_mut_ptr(), 5) };
+        assert_eq!((r.refusal, r.steps, once), (ACCEPTED, walked, strip));
+    }
+    block[2] = 0;
+    block[6] = 0;
+}
+
+/// The block is looked at before the code, then the turns, then the strip.
+fn refused_turns(block: &[u8; BLOCK]) {
+    let numbers = [0, 1, 5, 7, 9, 262, 264, u32::MAX].map(|turns| (BLOCK, 3, turns, 2, BAD_TURNS));
+    let order = [
+        (BLOCK - 1, 14, 7, 1, BAD_BLOCK),
+        (BLOCK, 14, 7, 1, BAD_CODE),
+        (BLOCK, 0, 7, 1, BAD_TURNS),
+        (BLOCK, 0, 8, 1, BAD_STRIP),
+    ];
+    for (len, code, turns, n, refusal) in order.into_iter().chain(numbers) {
+        for strip in [juvrada_strip_turns, juvrada_strip_once_turns] {
+            let mut out = [9.0; 2];
+            let r = unsafe { strip(block.as_ptr(), len, code, turns, out.as_mut_ptr(), n) };
+            assert_eq!((r.refusal, r.steps, out), (refusal, 0, [9.0; 2]));
+        }
+        if refusal == BAD_STRIP {
+            continue;
+        }
+        let r = unsafe { juvrada_height_turns(block.as_ptr(), len, code, turns, 1.0) };
+        assert_eq!((r.refusal, r.steps, r.height), (refusal, 0, 0.0));
+        let (mut at, mut kind) = ([9.0; MAX_MARKS], [9; MAX_MARKS]);
+        let r = unsafe { juvrada_marks_turns(block.as_ptr(), len, code, turns, at.as_mut_ptr(), kind.as_mut_ptr()) };
+        assert_eq!((r.refusal, r.count, at, kind), (refusal, 0, [9.0; MAX_MARKS], [9; MAX_MARKS]));
+        let r = unsafe { juvrada_scale_turns(block.as_ptr(), len, code, turns) };
+        assert_eq!((r.refusal, r.kind, r.number), (refusal, 0, 0.0));
+    }
 }

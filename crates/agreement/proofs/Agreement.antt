@@ -1,5 +1,5 @@
--- BLOCKS THAT AGREE IN A CODE'S BYTES HAVE THE SAME ANSWERS for that code, and blocks that agree in byte 160 the same gates and bars, whatever else they hold. Assumes nothing.
-use mathlib.Core.Path.{_≡_}
+-- BLOCKS THAT AGREE IN A CODE'S BYTES HAVE THE SAME ANSWERS for that code, at every number of turns, and blocks that agree in byte 160 the same gates and bars, whatever else they hold. Assumes nothing.
+use mathlib.Core.Path.{_≡_, ap}
 use mathlib.Core.List.{List}
 use Prim.Native.Nat.{ℕ}
 use lib.ListN.{length}
@@ -7,14 +7,16 @@ use Rattle.codes.specs.declared.Code.{Code}
 use Rattle.codes.specs.declared.CodeRead.the-variants.{Known}
 use Rattle.codes.specs.Codes.{codeOf}
 use Rattle.code_bytes.specs.Bytes.{Agree, bytesOf, byteAt, gatesByte, blockLength}
+use Rattle.turns.specs.Turns.{turnsRead}
+use Rattle.block.specs.declared.Chosen.{Chosen}
 use Rattle.block.specs.Refusals.{chosenOf}
+use Rattle.block_turns.specs.Choice.{chosenAt, chosenTurns}
 use Rattle.block.proofs.Agreement.{agreement-chosen}
 use Rattle.block_gates.specs.Answers.{ofByte, gatesAnswer, barsAnswer}
 use Rattle.agreement.specs.Agreement.{SameAnswers}
 
-pub same-answers : (c : Code) (x y : List ℕ) (code : ℕ) → length x ≡ blockLength → length y ≡ blockLength → codeOf code ≡ Known c → Agree (bytesOf c) (byteAt x) (byteAt y)
-    → SameAnswers x y code
-same-answers c x y code lx ly k h =
+alike : {a b : Chosen} → a ≡ b → SameAnswers a b
+alike e =
     record {
       settings = simp e;
       height = λ t. simp e;
@@ -28,9 +30,15 @@ same-answers c x y code lx ly k h =
       scale = simp e;
       anchored = simp e;
     }
-  where
-    e : chosenOf x code ≡ chosenOf y code
-    e = agreement-chosen c x y code lx ly k h
+
+module _ (c : Code) (x y : List ℕ) (code : ℕ) (lx : length x ≡ blockLength) (ly : length y ≡ blockLength) (k : codeOf code ≡ Known c) (h : Agree (bytesOf c) (byteAt x) (byteAt y)) where
+  pub same-answers : SameAnswers (chosenOf x code) (chosenOf y code)
+  same-answers = alike (agreement-chosen c x y code lx ly k h)
+
+  -- at every number of turns too
+  pub same-turns : (turns : ℕ) → SameAnswers (chosenTurns x code turns) (chosenTurns y code turns)
+  unfolding chosenTurns
+  same-turns turns = alike (ap (λ (a : Chosen). chosenAt a (turnsRead turns)) (agreement-chosen c x y code lx ly k h))
 
 pub same-gates : (x y : List ℕ) → length x ≡ blockLength → length y ≡ blockLength → byteAt x gatesByte ≡ byteAt y gatesByte → gatesAnswer x ≡ gatesAnswer y
 unfolding ofByte

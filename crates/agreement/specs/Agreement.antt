@@ -3,7 +3,8 @@ use mathlib.Core.Path.{_≡_}
 use mathlib.Core.List.{List}
 use Prim.Native.Nat.{ℕ}
 use lib.Ieee.{Float}
-use Rattle.block.specs.Refusals.{chosenOf, heightAnswer}
+use Rattle.block.specs.declared.Chosen.{Chosen}
+use Rattle.block.specs.Refusals.{heightAnswer}
 use Rattle.block_strip.specs.Strips.{stripAnswer, stripAfter}
 use Rattle.block_strip_once.specs.Strips.{stripOnceAnswer}
 use Rattle.block_settings.specs.Answers.{settingsAnswer}
@@ -11,16 +12,16 @@ use Rattle.block_marks.specs.Answers.{marksAnswer}
 use Rattle.block_generator.specs.Answers.{restAnswer, scaleAnswer, anchoredAnswer}
 use Rattle.block_captions.specs.Answers.{captionsAnswer, captionsAfter}
 
--- Two blocks give a code the same answers throughout.
-pub record SameAnswers (x y : List ℕ) (code : ℕ) : Type 0 where
-  pub settings : settingsAnswer (chosenOf x code) ≡ settingsAnswer (chosenOf y code)
-  pub height : (t : Float) → heightAnswer (chosenOf x code) t ≡ heightAnswer (chosenOf y code) t
-  pub steps : (n : ℕ) → stripAnswer (chosenOf x code) n ≡ stripAnswer (chosenOf y code) n
-  pub stepsOnce : (n : ℕ) → stripOnceAnswer (chosenOf x code) n ≡ stripOnceAnswer (chosenOf y code) n
-  pub strip : (before : List Float) → stripAfter (chosenOf x code) before ≡ stripAfter (chosenOf y code) before
-  pub captioned : (n : ℕ) → captionsAnswer (chosenOf x code) n ≡ captionsAnswer (chosenOf y code) n
-  pub captions : (before : List ℕ) → captionsAfter (chosenOf x code) before ≡ captionsAfter (chosenOf y code) before
-  pub marks : marksAnswer (chosenOf x code) ≡ marksAnswer (chosenOf y code)
-  pub rest : restAnswer (chosenOf x code) ≡ restAnswer (chosenOf y code)
-  pub scale : scaleAnswer (chosenOf x code) ≡ scaleAnswer (chosenOf y code)
-  pub anchored : anchoredAnswer (chosenOf x code) ≡ anchoredAnswer (chosenOf y code)
+-- What two blocks choose gives the same answers throughout.
+pub record SameAnswers (a b : Chosen) : Type 0 where
+  pub settings : settingsAnswer a ≡ settingsAnswer b
+  pub height : (t : Float) → heightAnswer a t ≡ heightAnswer b t
+  pub steps : (n : ℕ) → stripAnswer a n ≡ stripAnswer b n
+  pub stepsOnce : (n : ℕ) → stripOnceAnswer a n ≡ stripOnceAnswer b n
+  pub strip : (before : List Float) → stripAfter a before ≡ stripAfter b before
+  pub captioned : (n : ℕ) → captionsAnswer a n ≡ captionsAnswer b n
+  pub captions : (before : List ℕ) → captionsAfter a before ≡ captionsAfter b before
+  pub marks : marksAnswer a ≡ marksAnswer b
+  pub rest : restAnswer a ≡ restAnswer b
+  pub scale : scaleAnswer a ≡ scaleAnswer b
+  pub anchored : anchoredAnswer a ≡ anchoredAnswer b

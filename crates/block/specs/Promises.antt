@@ -15,15 +15,15 @@ use Rattle.codes.specs.Codes.{codeOf}
 use Rattle.code_bytes.specs.Bytes.{byteAt, blockLength}
 use Rattle.block.specs.Refusals.{chosenOf, heightAnswer, heightRefusal}
 
--- The answer is a height, and of it all is promised that belongs to the code and the block's bytes.
-pub record HeightGiven (c : Code) (block : List ℕ) (t : Float) (r : HeightAnswer) : Type 0 where
+-- The answer is a height, and of it something is promised.
+pub record HeightGiven (Promised : Height → Type 0) (r : HeightAnswer) : Type 0 where
   pub height : Height
   pub answer : r ≡ AHeight height
-  pub promised : CodePromised c (byteAt block) t height
+  pub promised : Promised height
 
 -- The answer is that of the formulas, refusals included. It is refused by the first check that fails, and by nothing else. A block of 242 bytes
--- and a known code are given a height.
+-- and a known code are given a height, with all that is promised of one.
 pub record HeightAnswered (block : List ℕ) (code : ℕ) (t : Float) (r : HeightAnswer) : Type 0 where
   pub equation : r ≡ heightAnswer (chosenOf block code) t
   pub refusal : heightRefusal r ≡ checkBlock (length block) (checkCode code accepted)
-  pub given : (c : Code) → codeOf code ≡ Known c → length block ≡ blockLength → HeightGiven c block t r
+  pub given : (c : Code) → codeOf code ≡ Known c → length block ≡ blockLength → HeightGiven (CodePromised c (byteAt block) t) r

@@ -1,8 +1,11 @@
-// The marks of the generator of a block and a code.
+// The marks of the generator of a block and a code, and at a number of turns.
+ghost use mathlib.Core.Path.{_≡_};
 ghost use Rattle.block_choice.specs.Promises.{Answered};
+ghost use Rattle.block_turns.specs.Promises.{TurnsAnswered};
 ghost use Rattle.block_marks.specs.Answers.{marksAnswer, marksRefusal};
 use block::Chosen;
 use block_choice::choose;
+use block_turns::choose_turns;
 use marks::Marks;
 use marks::no_marks;
 use refusals::Answer;
@@ -14,10 +17,10 @@ pub struct MarksAnswer {
     pub marks: Marks,
 }
 
-pub fn marks(block: &[u8], code: u32) -> MarksAnswer
-    ensures { λ r. ⌜ Answered marksAnswer marksRefusal (now (block .entry)) code r ⌝ }
+// The marks of what is chosen, or the refusal.
+fn chosen_marks(chosen: Chosen) -> MarksAnswer
+    ensures { λ r. ⌜ r ≡ marksAnswer chosen ⌝ }
 {
-    let chosen = choose(block, code);
     match chosen {
         Chosen::Generator(g) => MarksAnswer {
             answer: Answer::Accepted,
@@ -28,4 +31,16 @@ pub fn marks(block: &[u8], code: u32) -> MarksAnswer
             marks: no_marks(),
         },
     }
+}
+
+pub fn marks(block: &[u8], code: u32) -> MarksAnswer
+    ensures { λ r. ⌜ Answered marksAnswer marksRefusal (now (block .entry)) code r ⌝ }
+{
+    chosen_marks(choose(block, code))
+}
+
+pub fn marks_turns(block: &[u8], code: u32, turns: u32) -> MarksAnswer
+    ensures { λ r. ⌜ TurnsAnswered marksAnswer marksRefusal (now (block .entry)) code turns r ⌝ }
+{
+    chosen_marks(choose_turns(block, code, turns))
 }

@@ -17,17 +17,17 @@ use Rattle.code_heights.specs.Promises.{CodePromised}
 use Rattle.block_strip.specs.declared.StripAnswer.{StripAnswer}
 use Rattle.block_strip.specs.Strips.{stripAnswer, stripAfter, stripRefusal}
 
--- Sample i of a strip, of n: it is the height at its own position, and of that height all is promised that belongs to the code and the block's bytes.
-pub record Sampled (c : Code) (block : List ℕ) (strip : List Float) (i : ℕ) : Type 0 where
+-- Sample i of a strip: it is a height of which something is promised at its own position.
+pub record Sampled (Promised : Float → Height → Type 0) (strip : List Float) (i : ℕ) : Type 0 where
   pub height : Height
   pub holds : getD strip i nan ≡ height .height
-  pub promised : CodePromised c (byteAt block) (samplePosition (length strip) i) height
+  pub promised : Promised (samplePosition (length strip) i) height
 
 -- The answer and what the strip holds afterwards are those of the formulas, refusals included; a strip keeps its length. It is refused by the
--- first check that fails, and by nothing else. A block of 242 bytes, a known code and a length from 2 to 4,096 are given every sample.
+-- first check that fails, and by nothing else. A block of 242 bytes, a known code and a length from 2 to 4,096 are given every sample, with all that is promised of a height.
 pub record StripAnswered (block : List ℕ) (code : ℕ) (before after : List Float) (r : StripAnswer) : Type 0 where
   pub equation : r ≡ stripAnswer (chosenOf block code) (length before)
   pub strip : after ≡ stripAfter (chosenOf block code) before
   pub size : length after ≡ length before
   pub refusal : stripRefusal r ≡ checkBlock (length block) (checkCode code (checkLength (length before) accepted))
-  pub given : (c : Code) → codeOf code ≡ Known c → length block ≡ blockLength → T (lengthFits (length before)) → (i : ℕ) → i < length before → Sampled c block after i
+  pub given : (c : Code) → codeOf code ≡ Known c → length block ≡ blockLength → T (lengthFits (length before)) → (i : ℕ) → i < length before → Sampled (CodePromised c (byteAt block)) after i

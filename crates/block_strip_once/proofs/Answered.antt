@@ -3,25 +3,28 @@
 use mathlib.Core.Path.{_≡_, refl, sym, ap, subst, _∙_}
 use mathlib.Core.Bool.{Bool, true, false, not, cond}
 use mathlib.Core.List.{List}
-use Prim.Native.Nat.{ℕ, zero, suc, _+_, _-_, _≤_, _<_}
+use Prim.Native.Nat.{ℕ, zero, suc, _+_, _-_, _*_, _≤_, _<_}
 use native.Mathlib.Omega.{arith}
 use lib.Dec.{T}
 use lib.ListN.{length}
-use lib.Ieee.{Float, le}
+use lib.Ieee.{Float, binary32, fits, le}
 use lib.Ieee.Bits.{is-true, is-false}
-use Rattle.exact.specs.Binary32.{bits, zero₃₂, one₃₂}
+use Rattle.exact.specs.Fraction.{Fraction}
+use Rattle.exact.specs.Binary32.{zero₃₂, one₃₂}
+use Rattle.settings.specs.declared.SampledTurns.the-variants.{Six, Eight}
+use Rattle.settings.specs.Settings.{sampledTurns}
 use Rattle.settings.specs.declared.Lfo.{Lfo}
 use Rattle.generator.specs.declared.Shape.{Shape}
 use Rattle.generator.specs.declared.Shape.the-variants.{Envelope as AnEnvelope, Fade as AFade, Lfo as AnLfo, Filter as AFilter, Oscillator as AnOscillator, Noise as ANoise}
 use Rattle.generator.specs.declared.Scale.the-variants.{Turns}
 use Rattle.generator.specs.Generator.{generatorOf, scaleOf, scaleValue}
 use Rattle.generator.specs.declared.Generator.{Generator}
-use Rattle.generator.specs.Heights.{walkPhase}
+use Rattle.shape_heights.specs.Heights.{heightOf, walkPhase}
 use Rattle.strip.specs.Strip.{samplePosition, sampleOf, lengthFits}
 use Rattle.strip.proofs.Lengths.{between}
 use Rattle.strip.proofs.Samples.{sample-fits}
 use Rattle.lfo_strip_once.specs.Once.{onceFrom, stepsOnce}
-use Rattle.lfo_strip_once.proofs.Laws.{one-turn, six-turns}
+use Rattle.lfo_strip_once.proofs.Laws.{one-turn, six-turns, eight-turns}
 use Rattle.walk.specs.Steps.{Steps}
 use Rattle.refusals.specs.declared.Refusal.the-variants.{Strip}
 use Rattle.codes.specs.declared.Code.{Code}
@@ -29,11 +32,11 @@ use Rattle.codes.specs.declared.CodeRead.the-variants.{Known}
 use Rattle.codes.specs.Codes.{codeOf}
 use Rattle.code_bytes.specs.Bytes.{byteAt, blockLength}
 use Rattle.code_shapes.specs.Shapes.{shapeOf}
-use Rattle.code_strip.proofs.Forward.{code-forward}
 use Rattle.shape_strip.specs.Forward.{goesForward}
-use Rattle.code_heights.specs.Promises.{slewedCode, CodePromised}
+use Rattle.shape_strip.proofs.Turned.{turned-goes}
+use Rattle.code_heights.specs.Promises.{slewedCode, boundOf, Promised}
 use Rattle.code_heights.proofs.Promised.{slewed}
-use Rattle.code_heights.proofs.EveryCode.{code-slewed, block-height}
+use Rattle.code_heights.proofs.EveryCode.{code-slewed, turned-six, block-height}
 use Rattle.block.specs.declared.Chosen.{Chosen}
 use Rattle.block.specs.declared.Chosen.the-variants.{Generator as AGenerator, Refused}
 use Rattle.block.specs.declared.Settled.{Settled}
@@ -49,7 +52,7 @@ use Rattle.block_strip_once.specs.Strips.{stripOnceAnswer}
 use Rattle.block_strip_once.specs.Promises.{WalkedOnce, StripOnceAnswered}
 
 -- ---- what is chosen goes forward
-forwardChosen : Chosen → Bool
+unfoldable pub forwardChosen : Chosen → Bool
 forwardChosen (AGenerator g) = goesForward (g .shape)
 forwardChosen (Refused r) = true
 
@@ -58,11 +61,11 @@ unfolding chosenOf chosenBy generatorOf forwardChosen
 chosen-forward block code g e = ap forwardChosen (sym e) ∙ go (settledOf block code)
   where
     go : (s : Settled) → forwardChosen (chosenBy s (byteAt block)) ≡ true
-    go (KnownCode c) = code-forward c (byteAt block)
+    go (KnownCode c) = subst (λ (s : Shape). goesForward s ≡ true) (turned-six c (byteAt block)) (turned-goes Six (shapeOf c (byteAt block)))
     go (NoCode r) = refl
 
 -- ---- it is refused where the plain engine refuses
-refused-alike : (a : Chosen) (n : ℕ) → stripRefusal (stripOnceAnswer a n) ≡ stripRefusal (stripAnswer a n)
+pub refused-alike : (a : Chosen) (n : ℕ) → stripRefusal (stripOnceAnswer a n) ≡ stripRefusal (stripAnswer a n)
 unfolding stripOnceAnswer stripAnswer
 refused-alike (AGenerator g) n = go (lengthFits n) _ _
   where
@@ -82,10 +85,10 @@ unfolding onceFrom
 once-walked zero n h = absurd (omega arith)
 once-walked (suc k) n h = omega arith
 
-once-most : (k n : ℕ) → k ≤ 672 → onceFrom k n ≤ 672 + n
+once-most : (m k n : ℕ) → k ≤ m → onceFrom k n ≤ m + n
 unfolding onceFrom
-once-most zero n h = omega arith
-once-most (suc k) n h = omega arith
+once-most m zero n h = omega arith
+once-most m (suc k) n h = omega arith
 
 from-one : (k : ℕ) → 1 ≤ k → k ≡ suc (k - 1)
 from-one k h = omega arith
@@ -100,35 +103,34 @@ by-turns (AFilter e) n j x f w h = absurd w
 by-turns (AnOscillator o) n j x f w h = absurd w
 by-turns (ANoise e) n j x f w h = absurd w
 
--- ---- THE STEPS
-walked-once : (c : Code) (b : ℕ → ℕ) → ((n : ℕ) → b n < 256) → (n : ℕ) → T (lengthFits n) → (r : StripAnswer) → r ≡ AStrip (stepsOnce (shapeOf c b) n) → WalkedOnce c b n r
+-- ---- THE STEPS, of a shape of whose heights all is promised
+pub walked-once : (s : Shape) (turns : ℕ) (bound : Fraction) → ((t : Float) → T (fits binary32 t) → Promised s (slewed s) turns bound t (heightOf s t))
+    → (n : ℕ) → T (lengthFits n) → (r : StripAnswer) → r ≡ AStrip (stepsOnce s n) → WalkedOnce s (slewed s) turns n r
 unfolding stepsOnce sampleOf
-walked-once c b h n t r e =
+walked-once s turns bound h n t r e =
     record {
       steps = onceFrom k n;
       answer = e;
       full = k - 1;
       walked = λ w. once-walked k n (p .walked w .some);
-      last = λ w. subst (λ (m : ℕ). Steps (walkPhase s (samplePosition n (n - 1))) m) (from-one k (p .walked w .some)) (p .walked w);
-      one = λ w u. by-turns s n (191 + n) one₃₂ (λ l v x. one-turn l n v (fit .0) (fit .1) x) (subst T (sym (code-slewed c b h)) w) u;
-      six = λ w u. by-turns s n (671 + n) (bits 0x40c0_0000) (λ l v x. six-turns l n v (fit .0) (fit .1) x) (subst T (sym (code-slewed c b h)) w) u;
+      last = λ w. subst (λ (m : ℕ). Steps turns (walkPhase s (samplePosition n (n - 1))) m) (from-one k (p .walked w .some)) (p .walked w);
+      one = λ w u. by-turns s n (191 + n) one₃₂ (λ l v x. one-turn l n v (fit .0) (fit .1) x) w u;
+      six = λ w u. by-turns s n (671 + n) (sampledTurns Six) (λ l v x. six-turns l n v (fit .0) (fit .1) x) w u;
+      eight = λ w u. by-turns s n (863 + n) (sampledTurns Eight) (λ l v x. eight-turns l n v (fit .0) (fit .1) x) w u;
       none = λ v. ap (λ (m : ℕ). onceFrom m n) (p .none v) ∙ unfold onceFrom in refl;
-      most = once-most k n (few (slewedCode c b) (λ w. p .walked w .most) (p .none));
+      most = once-most (96 + 96 * turns) k n (few (slewed s) (λ w. p .walked w .most) (p .none));
     }
   where
-    s : Shape
-    s = shapeOf c b
-
     k : ℕ
     k = sampleOf s n (n - 1) .steps
 
     fit : (2 ≤ n) × (n ≤ 4096)
     fit = between n {fit = lengthFits n} refl (ap not (is-true (lengthFits n) t))
 
-    p : CodePromised c b (samplePosition n (n - 1)) (sampleOf s n (n - 1))
-    p = block-height c b h (samplePosition n (n - 1)) (sample-fits n (n - 1))
+    p : Promised s (slewed s) turns bound (samplePosition n (n - 1)) (sampleOf s n (n - 1))
+    p = h (samplePosition n (n - 1)) (sample-fits n (n - 1))
 
-    few : (d : Bool) → (T d → k ≤ 672) → (T (not d) → k ≡ 0) → k ≤ 672
+    few : (d : Bool) → (T d → k ≤ 96 + 96 * turns) → (T (not d) → k ≡ 0) → k ≤ 96 + 96 * turns
     few true f g = f tt
     few false f g = let e : k ≡ 0 = g tt in omega arith
 
@@ -140,8 +142,15 @@ strip-once-answered block code before after r b e a =
       equation = e;
       plain = plain;
       refusal = ap stripRefusal e ∙ refused-alike (chosenOf block code) (length before) ∙ plain .refusal;
-      given = λ c k l t. walked-once c (byteAt block) b (length before) t r (e ∙ filled block code (length before) c k l t);
+      given = λ c k l t. own c (e ∙ filled block code (length before) c k l t) t;
     }
   where
     plain : StripAnswered block code before after (stripAnswer (chosenOf block code) (length before))
     plain = strip-answered block code before after (stripAnswer (chosenOf block code) (length before)) b refl a
+
+    own : (c : Code) → r ≡ AStrip (stepsOnce (shapeOf c (byteAt block)) (length before)) → T (lengthFits (length before)) → WalkedOnce (shapeOf c (byteAt block)) (slewedCode c (byteAt block)) 6 (length before) r
+    own c f t =
+        let s = shapeOf c (byteAt block) in
+        let w : slewed s ≡ slewedCode c (byteAt block) = ap slewed (sym (turned-six c (byteAt block))) ∙ code-slewed Six c (byteAt block) b in
+        subst (λ (d : Bool). WalkedOnce s d 6 (length before) r) w
+        (walked-once s 6 (boundOf c (byteAt block)) (λ t f. subst (λ (d : Bool). Promised s d 6 (boundOf c (byteAt block)) t (heightOf s t)) (sym w) (block-height c (byteAt block) b t f)) (length before) t r f)

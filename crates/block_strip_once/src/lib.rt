@@ -15,7 +15,7 @@ use shape_strip::fill_once;
 use strip::fits;
 
 // The strip of a generator. Its length is tested last, after the block and the code. What is refused leaves it as it was.
-fn generator_strip(g: Generator, out: &mut [f32]) -> StripAnswer
+pub fn generator_strip(g: Generator, out: &mut [f32]) -> StripAnswer
     requires { ⌜ goesForward (g .shape) ≡ true ⌝ }
     ensures { λ r. ⌜ (r ≡ stripOnceAnswer (Chosen.Generator g) (length (now (out .entry)))) × (now (out .exit) ≡ stripAfter (Chosen.Generator g) (now (out .entry))) ⌝ }
 {

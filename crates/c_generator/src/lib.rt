@@ -1,6 +1,7 @@
 // The rest level, the scale and the anchor for C callers: what crate block_generator answers, as numbers.
 ghost use mathlib.Core.Path.{_≡_};
 ghost use Rattle.block_choice.specs.Promises.{Answered};
+ghost use Rattle.block_turns.specs.Promises.{TurnsAnswered};
 ghost use Rattle.block_generator.specs.Answers.{restAnswer, restRefusal, scaleAnswer, scaleRefusal, anchoredAnswer, anchoredRefusal};
 ghost use Rattle.c_results.specs.Promises.{Returned};
 ghost use Rattle.c_generator.specs.Results.{restResult, scaleResult, anchoredResult};
@@ -76,6 +77,12 @@ pub fn scale(block: &[u8], code: u32) -> ScaleResult
     ensures { λ r. ⌜ Returned (λ a. r ≡ scaleResult a) (Answered scaleAnswer scaleRefusal (now (block .entry)) code) ⌝ }
 {
     scale_result(block_generator::scale(block, code))
+}
+
+pub fn scale_turns(block: &[u8], code: u32, turns: u32) -> ScaleResult
+    ensures { λ r. ⌜ Returned (λ a. r ≡ scaleResult a) (TurnsAnswered scaleAnswer scaleRefusal (now (block .entry)) code turns) ⌝ }
+{
+    scale_result(block_generator::scale_turns(block, code, turns))
 }
 
 pub fn anchored(block: &[u8], code: u32) -> AnchoredResult

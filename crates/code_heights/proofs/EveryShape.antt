@@ -6,6 +6,7 @@ use lib.Dec.{T}
 use lib.Ieee.{Float, binary32, fits, le}
 use Rattle.exact.specs.Binary32.{zero₃₂}
 use Rattle.curve.specs.Curve.{drawnOf, Drawn}
+use Rattle.settings.specs.declared.SampledTurns.{SampledTurns}
 use Rattle.settings.specs.declared.Lfo.{Lfo}
 use Rattle.settings.proofs.Ranges.{EnvelopeRange, FadeRange, FilterRange, OscillatorRange, NoiseRange}
 use Rattle.envelope.specs.Formula.{envelopeHeightOf}
@@ -22,41 +23,46 @@ use Rattle.lfo.proofs.Steps.{lfo-steps, no-steps}
 use Rattle.lfo.proofs.LfoDrawn.{WalkRange, lfo-drawn}
 use Rattle.generator.specs.declared.Shape.{Shape}
 use Rattle.generator.specs.declared.Shape.the-variants.{Envelope as AnEnvelope, Fade as AFade, Lfo as AnLfo, Filter as AFilter, Oscillator as AnOscillator, Noise as ANoise}
-use Rattle.generator.specs.Heights.{heightOf, heightℚ, walkPhase}
-use Rattle.code_heights.proofs.Promised.{shapeBound, slewed, Stepped, Promised}
+use Rattle.shape_heights.specs.Heights.{heightOf, heightℚ, walkPhase}
+use Rattle.code_heights.proofs.Promised.{shapeBound, slewed, ShapePromised}
 
--- all that the bounds use of a shape's settings
-unfoldable pub ShapeRange : Shape → Type 0
-ShapeRange (AnEnvelope e) = EnvelopeRange e
-ShapeRange (AFade f) = FadeRange f
-ShapeRange (AnLfo l) = WalkRange l
-ShapeRange (AFilter f) = FilterRange f
-ShapeRange (AnOscillator o) = OscillatorRange o
-ShapeRange (ANoise n) = NoiseRange n
+-- all that the bounds use of a shape's settings, at n turns of the sampled shapes
+unfoldable pub ShapeRange : SampledTurns → Shape → Type 0
+ShapeRange n (AnEnvelope e) = EnvelopeRange e
+ShapeRange n (AFade f) = FadeRange f
+ShapeRange n (AnLfo l) = WalkRange n l
+ShapeRange n (AFilter f) = FilterRange f
+ShapeRange n (AnOscillator o) = OscillatorRange o
+ShapeRange n (ANoise s) = NoiseRange s
 
 -- ---- a shape that is not walked
-unwalked : (s : Shape) (t : Float) → T (not (slewed s)) → heightOf s t .steps ≡ 0 → Drawn (heightOf s t .height) (heightℚ s t) (shapeBound s) → Promised s t (heightOf s t)
-unwalked s t n e d = record { equation = refl; drawn = d; steps = record { walked = λ h. absurd (both (slewed s) h n); none = λ _. e } }
+unwalked : (n : SampledTurns) (s : Shape) (t : Float) → T (not (slewed s)) → heightOf s t .steps ≡ 0 → Drawn (heightOf s t .height) (heightℚ s t) (shapeBound n s) → ShapePromised n s t (heightOf s t)
+unwalked n s t u e d = record { drawn = d; walked = λ h. absurd (both (slewed s) h u); none = λ _. e }
   where
     both : (b : Bool) → T b → T (not b) → ⊥
-    both true h n = n
-    both false h n = h
+    both true h u = u
+    both false h u = h
 
 -- ---- an LFO
-lfo-stepped : (l : Lfo) (t : Float) → WalkRange l → T (fits binary32 t) → Stepped (AnLfo l) t (heightOf (AnLfo l) t .steps)
-unfolding heightOf slewed walkPhase
-lfo-stepped l t r f = record { walked = λ h. lfo-steps l t (r .range) h f; none = λ h. no-steps l t (twice (le (l .slew) zero₃₂) h) }
+lfo-promised : (n : SampledTurns) (l : Lfo) (t : Float) → WalkRange n l → T (fits binary32 t) → ShapePromised n (AnLfo l) t (heightOf (AnLfo l) t)
+unfolding heightOf heightℚ shapeBound slewed walkPhase
+lfo-promised n l t r f =
+    record {
+      drawn = lfo-drawn n l t r f;
+      walked = λ h. lfo-steps n l t (r .range) h f;
+      none = λ h. no-steps l t (twice (le (l .slew) zero₃₂) h);
+    }
   where
     twice : (b : Bool) → T (not (not b)) → T b
     twice true h = h
     twice false h = h
 
 -- EVERY SHAPE
-pub every-shape : (s : Shape) → ShapeRange s → (t : Float) → T (fits binary32 t) → Promised s t (heightOf s t)
+pub every-shape : (n : SampledTurns) (s : Shape) → ShapeRange n s → (t : Float) → T (fits binary32 t) → ShapePromised n s t (heightOf s t)
 unfolding ShapeRange heightOf heightℚ shapeBound slewed envelopeHeightOf fadeHeightOf filterHeightOf oscillatorHeightOf noiseHeightOf drawnOf
-every-shape (AnEnvelope e) r t f = unwalked (AnEnvelope e) t tt refl (envelope-drawn e r t f)
-every-shape (AFade x) r t f = unwalked (AFade x) t tt refl (fade-drawn x r t f)
-every-shape (AnLfo l) r t f = record { equation = refl; drawn = lfo-drawn l t r f; steps = lfo-stepped l t r f }
-every-shape (AFilter x) r t f = unwalked (AFilter x) t tt refl (filter-drawn x r t f)
-every-shape (AnOscillator o) r t f = unwalked (AnOscillator o) t tt refl (oscillator-drawn o r t f)
-every-shape (ANoise n) r t f = unwalked (ANoise n) t tt refl (noise-drawn n r t f)
+every-shape n (AnEnvelope e) r t f = unwalked n (AnEnvelope e) t tt refl (envelope-drawn e r t f)
+every-shape n (AFade x) r t f = unwalked n (AFade x) t tt refl (fade-drawn x r t f)
+every-shape n (AnLfo l) r t f = lfo-promised n l t r f
+every-shape n (AFilter x) r t f = unwalked n (AFilter x) t tt refl (filter-drawn x r t f)
+every-shape n (AnOscillator o) r t f = unwalked n (AnOscillator o) t tt refl (oscillator-drawn o r t f)
+every-shape n (ANoise s) r t f = unwalked n (ANoise s) t tt refl (noise-drawn s r t f)

@@ -1,7 +1,7 @@
--- What is promised of the height of every shape, whatever the bytes, and of every code; heights that are known beforehand; what has no value gives none.
+-- What is promised of the height of every shape and of every code, at six turns and at eight; heights that are known beforehand; what has no value gives none.
 pub mod Promised
 pub mod EveryShape
-pub mod EveryBlock
 pub mod EveryCode
+pub mod EveryTurns
 pub mod KnownHeights
 pub mod NoValue

@@ -35,7 +35,7 @@ use Rattle.walk.specs.Exact.{limitℚ, heldℚ, movedℚ, levelAfterℚ, cutAft
 use Rattle.lfo.specs.Exact.{lfoHeightℚ}
 use Rattle.generator.specs.declared.Shape.{Shape}
 use Rattle.generator.specs.declared.Shape.the-variants.{Envelope as AnEnvelope, Fade as AFade, Lfo as AnLfo, Filter as AFilter, Oscillator as AnOscillator, Noise as ANoise}
-use Rattle.generator.specs.Heights.{heightℚ}
+use Rattle.shape_heights.specs.Heights.{heightℚ}
 
 none : Fraction → Bool
 none a = eqb (a .den) 0

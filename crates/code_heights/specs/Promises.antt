@@ -1,15 +1,19 @@
 -- WHAT IS PROMISED OF A CODE'S HEIGHT, in terms of the block's bytes: docs/SPECIFICATION.md, "The three demands". Definitions only.
 use mathlib.Core.Path.{_≡_}
-use mathlib.Core.Bool.{Bool, false, not, cond}
+use mathlib.Core.Bool.{Bool, false, not, cond, _&&_}
 use Prim.Native.Nat.{ℕ, _+_}
 use lib.Dec.{T, eqb}
 use lib.Ieee.{Float}
 use Rattle.exact.specs.Fraction.{Fraction, ratio}
 use Rattle.curve.specs.declared.Height.{Height}
 use Rattle.curve.specs.Curve.{Drawn}
-use Rattle.settings.specs.Settings.{isOn}
+use Rattle.settings.specs.declared.SampledTurns.{SampledTurns}
+use Rattle.settings.specs.declared.SampledTurns.the-variants.{Six, Eight}
+use Rattle.settings.specs.Settings.{turnsNumber, isOn}
 use Rattle.walk.specs.Steps.{Steps}
-use Rattle.generator.specs.Heights.{heightℚ, walkPhase}
+use Rattle.generator.specs.declared.Shape.{Shape}
+use Rattle.shape_heights.specs.Heights.{heightℚ, walkPhase}
+use Rattle.turns.specs.Turns.{turnedOf, sampled}
 use Rattle.codes.specs.declared.Code.{Code}
 use Rattle.codes.specs.declared.Code.the-variants.{Envelope, Lfo, LfoUnipolar, Fade, LowPass, HighPass, Oscillator, Noise}
 use Rattle.code_bytes.specs.Bytes.{lfoFirst, slewPlace}
@@ -41,8 +45,20 @@ boundOf HighPass b = ratio 1 262144
 boundOf (Oscillator id) b = ratio 1 262144
 boundOf Noise b = ratio 1 262144
 
--- DEMAND 3 of a code's height h: a number from 0 to 1, no further than the code's bound from the exact height; its steps are the walk's where it is walked, else 0.
-pub record CodePromised (c : Code) (b : ℕ → ℕ) (t : Float) (h : Height) : Type 0 where
-  pub drawn : Drawn (h .height) (heightℚ (shapeOf c b) t) (boundOf c b)
-  pub walked : T (slewedCode c b) → Steps (walkPhase (shapeOf c b) t) (h .steps)
-  pub none : T (not (slewedCode c b)) → h .steps ≡ 0
+-- The bound of a code at n turns of the sampled shapes: twice that of six where a sampled shape is walked along eight.
+unfoldable pub boundAt : SampledTurns → Code → (ℕ → ℕ) → Fraction
+boundAt Six c b = boundOf c b
+boundAt Eight c b = cond (slewedCode c b && sampled (shapeOf c b)) (ratio 1 2048) (boundOf c b)
+
+-- DEMAND 3 of the height h of a shape: a number from 0 to 1, no further than a bound from the exact height; its steps are the walk's, of so many turns, where it is walked, else 0.
+pub record Promised (s : Shape) (walks : Bool) (turns : ℕ) (bound : Fraction) (t : Float) (h : Height) : Type 0 where
+  pub drawn : Drawn (h .height) (heightℚ s t) bound
+  pub walked : T walks → Steps turns (walkPhase s t) (h .steps)
+  pub none : T (not walks) → h .steps ≡ 0
+
+-- Of a code's height, and of its height at n turns of the sampled shapes.
+abbrev pub CodePromised : Code → (ℕ → ℕ) → Float → Height → Type 0
+CodePromised c b = Promised (shapeOf c b) (slewedCode c b) 6 (boundOf c b)
+
+abbrev pub TurnsPromised : SampledTurns → Code → (ℕ → ℕ) → Float → Height → Type 0
+TurnsPromised n c b = Promised (turnedOf n (shapeOf c b)) (slewedCode c b) (turnsNumber n) (boundAt n c b)

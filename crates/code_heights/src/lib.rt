@@ -1,7 +1,7 @@
 // The height of a code, from the bytes of a whole block. What is promised of every shape and of every code stands beside it.
 ghost use mathlib.Core.Path.{_≡_};
 ghost use lib.ListN.{length};
-ghost use Rattle.generator.specs.Heights.{heightOf};
+ghost use Rattle.shape_heights.specs.Heights.{heightOf};
 ghost use Rattle.code_bytes.specs.Bytes.{byteAt, blockLength};
 ghost use Rattle.code_shapes.specs.Shapes.{shapeOf};
 use code_bytes::NOISE_LEVEL;

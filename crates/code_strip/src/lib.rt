@@ -3,7 +3,6 @@ ghost use mathlib.Core.Path.{_≡_};
 ghost use Prim.Native.Nat.{_≤_};
 ghost use lib.ListN.{length};
 ghost use Rattle.strip.specs.Strip.{filledOf, stepSum};
-ghost use Rattle.lfo_strip_once.specs.Once.{stepsOnce};
 ghost use Rattle.code_bytes.specs.Bytes.{byteAt, blockLength, lfoFirst};
 ghost use Rattle.code_settings.specs.Settings.{lfoAt};
 ghost use Rattle.code_shapes.specs.Shapes.{shapeOf};
@@ -14,7 +13,6 @@ use code_settings::envelope_at;
 use code_settings::fade_at;
 use code_settings::lfo_at;
 use code_settings::oscillator_at;
-use code_shapes::shape_at;
 use codes::Code;
 use codes::EnvelopeId;
 use codes::LfoId;
@@ -27,7 +25,6 @@ use lfo_strip::fill_lfo;
 use settings::high_pass;
 use settings::low_pass_from;
 use settings::noise_from;
-use shape_strip::fill_once;
 use tone_strip::fill_filter;
 use tone_strip::fill_noise;
 use tone_strip::fill_oscillator;
@@ -68,12 +65,4 @@ pub fn strip_at(block: &[u8], code: Code, out: &mut [f32]) -> u32
         Code::Oscillator(id) => fill_oscillator(oscillator_at(block, id), out),
         Code::Noise => fill_noise(noise_from(block[NOISE_LEVEL]), out),
     }
-}
-
-// The same strip with one walk along it where an LFO has slew; its steps are its own.
-pub fn strip_once_at(block: &[u8], code: Code, out: &mut [f32]) -> u32
-    requires { ⌜ (length (now block) ≡ blockLength) × (2 ≤ length (now out)) × (length (now out) ≤ 4096) ⌝ }
-    ensures { λ r. ⌜ (r ≡ stepsOnce (shapeOf code (byteAt (now (block .entry)))) (length (now (out .entry)))) × (now (out .exit) ≡ filledOf (shapeOf code (byteAt (now (block .entry)))) (length (now (out .entry))) (length (now (out .entry))) (now (out .entry))) ⌝ }
-{
-    fill_once(shape_at(block, code), out)
 }

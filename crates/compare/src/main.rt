@@ -1,7 +1,9 @@
-// Prints what differs between two programs: both blocks are on standard input, the old one first. Any other number of bytes prints one line, `refused` and the refusal's number.
+// Prints what differs between two programs: both blocks are on standard input, the old one first, and the argument is the number of turns of the sampled shapes. Any other number of bytes,
+// and of turns than 6 or 8, prints one line, `refused` and the refusal's number.
 ghost use mathlib.Core.Path.{_≡_};
 ghost use lib.ListN.{length};
 use comparison::put_differences;
+use decimal_reading::read_at_most;
 use libc::STDIN_FILENO;
 use libc::STDOUT_FILENO;
 use refusals::Refusal;
@@ -20,20 +22,32 @@ fn print_first(text: &[u8], n: usize) {
     }
 }
 
-fn print_differences(both: &[u8]) {
+fn refuse(r: Refusal) {
+    io::write_all(STDOUT_FILENO, b"refused ");
+    io::print_decimal(STDOUT_FILENO, refusal_number(r) as u64);
+    io::write_all(STDOUT_FILENO, b"\n");
+}
+
+// No text is that of another number of turns: every other has some.
+fn print_differences(turns: u32, both: &[u8]) {
     if both.len() != 484 {
-        io::write_all(STDOUT_FILENO, b"refused ");
-        io::print_decimal(STDOUT_FILENO, refusal_number(Refusal::Block) as u64);
-        io::write_all(STDOUT_FILENO, b"\n");
+        refuse(Refusal::Block);
         return;
     }
     let mut text = buffer();
-    let n = put_differences(&mut text, 0, &both[..242], &both[242..]);
+    let n = put_differences(&mut text, 0, turns, &both[..242], &both[242..]);
+    if n == 0 {
+        refuse(Refusal::Turns);
+        return;
+    }
     print_first(&text, n);
 }
 
 fn main() {
     let mut both = [0u8; 485];
     let got = io::read_full(STDIN_FILENO, &mut both);
-    print_differences(&both[..got]);
+    let mut word = [0u8; 16];
+    let digits = os::arg(1, &mut word);
+    let turns = read_at_most(&word[..digits], 255) as u32;
+    print_differences(turns, &both[..got]);
 }

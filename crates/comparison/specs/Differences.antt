@@ -1,4 +1,5 @@
--- WHAT DIFFERS BETWEEN TWO PROGRAMS, AS TEXT: docs/SPECIFICATION.md, "What differs". A reading gives the byte of each number: a is the old, b the new. Definitions only.
+-- WHAT DIFFERS BETWEEN TWO PROGRAMS, AS TEXT: docs/SPECIFICATION.md, "What differs". A reading gives the byte of each number: a is the old, b the new. The curves of sampled
+-- shapes are held against each other at n turns. Definitions only.
 use mathlib.Core.Bool.{cond}
 use mathlib.Core.List.{List, [], _∷_, _++_}
 use Prim.Native.Nat.{ℕ, zero, suc, _+_}
@@ -8,7 +9,9 @@ use lib.Ieee.{Float}
 use Rattle.text.specs.Text.{ascii, textsBelow}
 use Rattle.numerals.specs.Spelled.{decimalOf}
 use Rattle.generator.specs.declared.Shape.{Shape}
-use Rattle.generator.specs.Heights.{heightOf}
+use Rattle.shape_heights.specs.Heights.{heightOf}
+use Rattle.settings.specs.declared.SampledTurns.{SampledTurns}
+use Rattle.turns.specs.Turns.{turnsRead, turnsText, turnedOf}
 use Rattle.strip.specs.Strip.{samplePosition}
 use Rattle.codes.specs.declared.Code.{Code}
 use Rattle.codes.specs.declared.CodeRead.{CodeRead}
@@ -39,17 +42,17 @@ unfoldable pub largestText : ALargest → List ℕ
 largestText l = ascii "different  largest difference " ++ ninePlaces (l .size) ++ ascii " at " ++ ninePlaces (positionAt (l .index)) ++ ascii "\n"
 
 -- Its name, and whether all bytes that it reads are the same; if not, how far apart the curves are, and a line for each byte that differs.
-unfoldable pub generatorText : Code → (ℕ → ℕ) → (ℕ → ℕ) → List ℕ
-generatorText c a b =
-    titleOf (codeNumber c) ++ cond (sameBytes (bytesOf c) a b) (ascii "same\n") (largestText (largestOf (curveOf (shapeOf c a)) (curveOf (shapeOf c b)) comparedSamples) ++ changesText (bytesOf c) a b)
+unfoldable pub generatorText : SampledTurns → Code → (ℕ → ℕ) → (ℕ → ℕ) → List ℕ
+generatorText n c a b =
+    titleOf (codeNumber c) ++ cond (sameBytes (bytesOf c) a b) (ascii "same\n") (largestText (largestOf (curveOf (turnedOf n (shapeOf c a))) (curveOf (turnedOf n (shapeOf c b))) comparedSamples) ++ changesText (bytesOf c) a b)
 
-unfoldable pub codeText : CodeRead → (ℕ → ℕ) → (ℕ → ℕ) → List ℕ
-codeText (Known c) a b = generatorText c a b
-codeText Above a b = []
+unfoldable pub codeText : SampledTurns → CodeRead → (ℕ → ℕ) → (ℕ → ℕ) → List ℕ
+codeText n (Known c) a b = generatorText n c a b
+codeText n Above a b = []
 
 -- The generators of the first k codes.
-abbrev pub codesText : ℕ → (ℕ → ℕ) → (ℕ → ℕ) → List ℕ
-codesText k a b = textsBelow (λ n. codeText (codeOf n) a b) k
+abbrev pub codesText : SampledTurns → ℕ → (ℕ → ℕ) → (ℕ → ℕ) → List ℕ
+codesText n k a b = textsBelow (λ i. codeText n (codeOf i) a b) k
 
 -- ---- the gates, which have no height
 unfoldable pub gateText : (ℕ → ℕ) → (ℕ → ℕ) → List ℕ
@@ -77,11 +80,12 @@ unfoldable pub countsText : (ℕ → ℕ) → (ℕ → ℕ) → List ℕ
 countsText a b =
     decimalOf (codesCount 14 a b + gateCount a b) ++ ascii " of 15 differ, and of the bytes that no curve draws " ++ decimalOf (undrawnCount blockLength a b) ++ ascii "\n"
 
-unfoldable pub programsText : List ℕ → List ℕ → List ℕ
-programsText old new =
-    namesText old new ++ codesText 14 (byteAt old) (byteAt new) ++ gateText (byteAt old) (byteAt new) ++
+unfoldable pub programsText : SampledTurns → List ℕ → List ℕ → List ℕ
+programsText n old new =
+    namesText old new ++ codesText n 14 (byteAt old) (byteAt new) ++ gateText (byteAt old) (byteAt new) ++
     undrawnPart (byteAt old) (byteAt new) ++ countsText (byteAt old) (byteAt new)
 
--- Where a block has another length there is no text.
-unfoldable pub differencesText : List ℕ → List ℕ → List ℕ
-differencesText old new = cond (eqb (length old) blockLength) (cond (eqb (length new) blockLength) (programsText old new) []) []
+-- Where a block has another length, or the turns are another number than 6 or 8, there is no text.
+unfoldable pub differencesText : ℕ → List ℕ → List ℕ → List ℕ
+differencesText turns old new =
+    cond (eqb (length old) blockLength) (cond (eqb (length new) blockLength) (turnsText (λ n. programsText n old new) (turnsRead turns)) []) []

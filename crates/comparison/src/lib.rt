@@ -6,11 +6,12 @@ ghost use Rattle.text.specs.Text.{Puts};
 ghost use Rattle.codes.specs.Codes.{codeOf};
 ghost use Rattle.code_bytes.specs.Bytes.{byteAt, blockLength};
 ghost use Rattle.code_shapes.specs.Shapes.{shapeOf};
+ghost use Rattle.turns.specs.Turns.{turnedOf};
 ghost use Rattle.largest_difference.specs.Largest.{largestOf, comparedSamples};
 ghost use Rattle.comparison.specs.Differences.{curveOf, largestText, generatorText, codeText, codesText, gateText, codeCount, codesCount, gateCount, namesText, countsText, programsText, differencesText};
 use block::BLOCK;
 use code_bytes::GATE_TIME;
-use code_strip::strip_once_at;
+use code_shapes::shape_at;
 use codes::CODES;
 use codes::Code;
 use codes::CodeRead;
@@ -27,8 +28,13 @@ use largest_difference::find_largest;
 use nine_places::put_nine_places;
 use numerals::put_decimal;
 use program_name::put_name_in_line;
+use settings::SampledTurns;
+use shape_strip::fill_once;
 use strip::sample_position;
 use text::put;
+use turns::TurnsRead;
+use turns::turned;
+use turns::turns_read;
 use undrawn_bytes::put_undrawn_part;
 use undrawn_count::count_undrawn;
 
@@ -50,49 +56,63 @@ fn put_largest(out: &mut [u8], at: usize, largest: Largest) -> usize
 }
 
 // How far apart the curves of a code are: both strips, an LFO's by one walk along it, and where they are farthest apart.
-fn largest_of(old: &[u8], new: &[u8], code: Code) -> Largest
+fn largest_of(sampled: SampledTurns, old: &[u8], new: &[u8], code: Code) -> Largest
     requires { ⌜ (length (now old) ≡ blockLength) × (length (now new) ≡ blockLength) ⌝ }
-    ensures { λ r. ⌜ r ≡ largestOf (curveOf (shapeOf code (byteAt (now (old .entry))))) (curveOf (shapeOf code (byteAt (now (new .entry))))) comparedSamples ⌝ }
+    ensures { λ r. ⌜ r ≡ largestOf (curveOf (turnedOf sampled (shapeOf code (byteAt (now (old .entry)))))) (curveOf (turnedOf sampled (shapeOf code (byteAt (now (new .entry)))))) comparedSamples ⌝ }
 {
     let mut old_curve = [0.0f32; SAMPLES];
     let mut new_curve = [0.0f32; SAMPLES];
-    strip_once_at(old, code, &mut old_curve);
-    strip_once_at(new, code, &mut new_curve);
+    fill_once(turned(sampled, shape_at(old, code)), &mut old_curve);
+    fill_once(turned(sampled, shape_at(new, code)), &mut new_curve);
     find_largest(&old_curve, &new_curve)
 }
 
-fn put_code(out: &mut [u8], at: usize, old: &[u8], new: &[u8], code: Code) -> usize
+fn put_code(
+    out: &mut [u8],
+    at: usize,
+    sampled: SampledTurns,
+    old: &[u8],
+    new: &[u8],
+    code: Code,
+) -> usize
     requires { ⌜ (length (now old) ≡ blockLength) × (length (now new) ≡ blockLength) ⌝ }
-    ensures { λ r. ⌜ Puts (now (out .entry)) at (generatorText code (byteAt (now (old .entry))) (byteAt (now (new .entry)))) (now (out .exit)) r ⌝ }
+    ensures { λ r. ⌜ Puts (now (out .entry)) at (generatorText sampled code (byteAt (now (old .entry))) (byteAt (now (new .entry)))) (now (out .exit)) r ⌝ }
 {
     let titled = put_title(out, at, code_number(code));
     if same(old, new, code) {
         return put(out, titled, b"same\n");
     }
-    let next = put_largest(out, titled, largest_of(old, new, code));
+    let next = put_largest(out, titled, largest_of(sampled, old, new, code));
     put_code_changes(out, next, old, new, code)
 }
 
 // The lines of the generator of a code's number.
-fn put_numbered(out: &mut [u8], at: usize, old: &[u8], new: &[u8], number: u8) -> usize
+fn put_numbered(
+    out: &mut [u8],
+    at: usize,
+    sampled: SampledTurns,
+    old: &[u8],
+    new: &[u8],
+    number: u8,
+) -> usize
     requires { ⌜ (length (now old) ≡ blockLength) × (length (now new) ≡ blockLength) ⌝ }
-    ensures { λ r. ⌜ Puts (now (out .entry)) at (codeText (codeOf number) (byteAt (now (old .entry))) (byteAt (now (new .entry)))) (now (out .exit)) r ⌝ }
+    ensures { λ r. ⌜ Puts (now (out .entry)) at (codeText sampled (codeOf number) (byteAt (now (old .entry))) (byteAt (now (new .entry)))) (now (out .exit)) r ⌝ }
 {
     let read = code_from(number);
     match read {
-        CodeRead::Known(code) => put_code(out, at, old, new, code),
+        CodeRead::Known(code) => put_code(out, at, sampled, old, new, code),
         CodeRead::Above => at,
     }
 }
 
-fn put_codes(out: &mut [u8], at: usize, old: &[u8], new: &[u8]) -> usize
+fn put_codes(out: &mut [u8], at: usize, sampled: SampledTurns, old: &[u8], new: &[u8]) -> usize
     requires { ⌜ (length (now old) ≡ blockLength) × (length (now new) ≡ blockLength) ⌝ }
-    ensures { λ r. ⌜ Puts (now (out .entry)) at (codesText 14 (byteAt (now (old .entry))) (byteAt (now (new .entry)))) (now (out .exit)) r ⌝ }
+    ensures { λ r. ⌜ Puts (now (out .entry)) at (codesText sampled 14 (byteAt (now (old .entry))) (byteAt (now (new .entry)))) (now (out .exit)) r ⌝ }
 {
     let mut next = at;
     let mut number: u8 = 0;
     while number < CODES {
-        next = put_numbered(out, next, old, new, number);
+        next = put_numbered(out, next, sampled, old, new, number);
         number += 1;
     }
     next
@@ -173,20 +193,32 @@ fn put_counts(out: &mut [u8], at: usize, old: &[u8], new: &[u8]) -> usize
     put(out, next, b"\n")
 }
 
-fn put_programs(out: &mut [u8], at: usize, old: &[u8], new: &[u8]) -> usize
+fn put_programs(
+    out: &mut [u8],
+    at: usize,
+    sampled: SampledTurns,
+    old: &[u8],
+    new: &[u8],
+) -> usize
     requires { ⌜ (length (now old) ≡ blockLength) × (length (now new) ≡ blockLength) ⌝ }
-    ensures { λ r. ⌜ Puts (now (out .entry)) at (programsText (now (old .entry)) (now (new .entry))) (now (out .exit)) r ⌝ }
+    ensures { λ r. ⌜ Puts (now (out .entry)) at (programsText sampled (now (old .entry)) (now (new .entry))) (now (out .exit)) r ⌝ }
 {
     let mut next = put_names(out, at, old, new);
-    next = put_codes(out, next, old, new);
+    next = put_codes(out, next, sampled, old, new);
     next = put_gate(out, next, old, new);
     next = put_undrawn_part(out, next, old, new);
     put_counts(out, next, old, new)
 }
 
-// The text of two blocks; where one has another length, nothing.
-pub fn put_differences(out: &mut [u8], at: usize, old: &[u8], new: &[u8]) -> usize
-    ensures { λ r. ⌜ Puts (now (out .entry)) at (differencesText (now (old .entry)) (now (new .entry))) (now (out .exit)) r ⌝ }
+// The text of two blocks; where one has another length, or the turns are another number than 6 or 8, nothing.
+pub fn put_differences(
+    out: &mut [u8],
+    at: usize,
+    turns: u32,
+    old: &[u8],
+    new: &[u8],
+) -> usize
+    ensures { λ r. ⌜ Puts (now (out .entry)) at (differencesText turns (now (old .entry)) (now (new .entry))) (now (out .exit)) r ⌝ }
 {
     if old.len() != BLOCK {
         return at;
@@ -194,5 +226,9 @@ pub fn put_differences(out: &mut [u8], at: usize, old: &[u8], new: &[u8]) -> usi
     if new.len() != BLOCK {
         return at;
     }
-    put_programs(out, at, old, new)
+    let read = turns_read(turns);
+    match read {
+        TurnsRead::Known(sampled) => put_programs(out, at, sampled, old, new),
+        TurnsRead::Other => at,
+    }
 }

@@ -1,7 +1,7 @@
 -- A NUMBER READ FROM ITS DIGITS: docs/SPECIFICATION.md, "Heights as text". Definitions only.
 use mathlib.Core.Bool.{cond}
 use mathlib.Core.List.{List, [], _∷_}
-use Prim.Native.Nat.{ℕ, _+_, _-_, _*_}
+use Prim.Native.Nat.{ℕ, _+_, _-_, _*_, min}
 use lib.Dec.{ltb, eqb}
 use lib.ListN.{length}
 use Rattle.decimal_reading.specs.declared.Number.{Number}
@@ -15,3 +15,8 @@ readAfter n (c ∷ text) = cond (ltb c 48) NotANumber (cond (ltb 57 c) NotANumbe
 -- The number of one to nine decimal digits.
 unfoldable pub readOf : List ℕ → Number
 readOf text = cond (eqb (length text) 0) NotANumber (cond (ltb 9 (length text)) NotANumber (readAfter 0 text))
+
+-- A number, or a largest one where it is larger or none.
+abbrev pub numberAtMost : Number → ℕ → ℕ
+numberAtMost (Value n) most = min n most
+numberAtMost NotANumber most = most

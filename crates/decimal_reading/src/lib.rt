@@ -1,6 +1,7 @@
 // A number read from its decimal digits.
 ghost use mathlib.Core.Path.{_≡_};
-ghost use Rattle.decimal_reading.specs.Reading.{readOf};
+ghost use Prim.Native.Nat.{_≤_};
+ghost use Rattle.decimal_reading.specs.Reading.{readOf, numberAtMost};
 
 // What digits stand for.
 pub enum Number {
@@ -35,4 +36,20 @@ pub fn read_number(text: &[u8]) -> Number
         i += 1;
     }
     Number::Value(value)
+}
+
+// The number of a text, and `most` where it is a larger one or none.
+pub fn read_at_most(text: &[u8], most: u16) -> u16
+    ensures { λ r. ⌜ (r ≡ numberAtMost (readOf (now (text .entry))) most) × (r ≤ most) ⌝ }
+{
+    let read = read_number(text);
+    match read {
+        Number::Value(value) => {
+            if value < most as u64 {
+                return value as u16;
+            }
+            most
+        }
+        Number::NotANumber => most,
+    }
 }

@@ -1,4 +1,4 @@
--- HOW MANY MARKS THERE ARE: at most six of any shape, one of an LFO of one turn, and six of an LFO of six. Assumes nothing.
+-- HOW MANY MARKS THERE ARE: at most eight of any shape; of an LFO one of one turn, six of six, eight of eight. Assumes nothing.
 use mathlib.Core.Path.{_≡_, ap, _∙_}
 use Prim.Native.Nat.{ℕ, _≤_}
 use lib.Ieee.{Float}
@@ -6,7 +6,7 @@ use Rattle.exact.specs.Binary32.{bits, one₃₂}
 use Rattle.settings.specs.declared.Lfo.{Lfo}
 use Rattle.marks.specs.Marks.{maxMarks, stored, cyclesOf}
 use Rattle.marks.proofs.Stored.{stored-at-most}
-use Rattle.marks.proofs.Counts.{one-cycle, six-cycles}
+use Rattle.marks.proofs.Counts.{one-cycle, six-cycles, eight-cycles}
 use Rattle.generator.specs.declared.Shape.{Shape}
 use Rattle.generator.specs.declared.Shape.the-variants.{Lfo as AnLfo}
 use Rattle.generator.specs.Generator.{markList, marksOf}
@@ -25,3 +25,6 @@ one-turn l e = count-of-turns l one₃₂ 1 one-cycle e
 
 pub six-turns : (l : Lfo) → l .turns ≡ bits 0x40c0_0000 → marksOf (AnLfo l) .count ≡ 6
 six-turns l e = count-of-turns l (bits 0x40c0_0000) 6 six-cycles e
+
+pub eight-turns : (l : Lfo) → l .turns ≡ bits 0x4100_0000 → marksOf (AnLfo l) .count ≡ 8
+eight-turns l e = count-of-turns l (bits 0x4100_0000) 8 eight-cycles e

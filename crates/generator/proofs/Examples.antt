@@ -6,7 +6,7 @@ use lib.Dec.{T, eqb}
 use lib.Ieee.{binary32, ofBits, toBits, ofInt, add, sub, mul, div, lt}
 use Rattle.lists.specs.Padded.{padded}
 use Rattle.lists.proofs.Rows.{allPass, allMatch}
-use Rattle.settings.specs.Settings.{byteOf, lfoShapeOf, turnsOf, lfoOf, fadeOf, lowPassOf, highPassOf, depthOf, widthOf, sweepOf, oscillatorOneOf, oscillatorTwoOf, noiseOf}
+use Rattle.settings.specs.Settings.{byteOf, lfoShapeOf, lfoOf, fadeOf, lowPassOf, highPassOf, depthOf, widthOf, sweepOf, oscillatorOneOf, oscillatorTwoOf, noiseOf}
 use Rattle.envelope_settings.specs.Formula.{totalOf, firstOf, secondOf, thirdOf, envelopeOf}
 use Rattle.marks.specs.Marks.{countOf, stored, envelopeMarks, fadeMarks, cyclesFrom, cyclesOf, sweepMarks, pulseMarks, oscillatorMarks}
 use Rattle.marks.proofs.Examples.{isMark, hasMarks}

@@ -1,3 +1,2 @@
--- Generators, what they say of themselves, and their heights.
+-- Generators, and what they say of themselves.
 pub mod Generator
-pub mod Heights

@@ -1,12 +1,6 @@
-// A generator: a shape and what its horizontal measures, with its height at every position, and its marks.
+// A generator: a shape and what its horizontal measures, with its marks, its rest level, its scale and its anchor. Its heights are shape_heights'.
 ghost use mathlib.Core.Path.{_≡_};
 ghost use Rattle.generator.specs.Generator.{scaleNumber, scaleValue, restOf, anchoredOf, marksOf};
-ghost use Rattle.generator.specs.Heights.{heightOf};
-use curve::Height;
-use envelope::envelope_height;
-use fade::fade_height;
-use filter::filter_height;
-use lfo::lfo_height;
 use marks::MarkKind;
 use marks::Marks;
 use marks::cycles;
@@ -15,8 +9,6 @@ use marks::fade_marks;
 use marks::no_marks;
 use marks::oscillator_marks;
 use marks::push;
-use noise::noise_height;
-use oscillator::oscillator_height;
 use settings::Envelope;
 use settings::Fade;
 use settings::Filter;
@@ -55,21 +47,6 @@ pub const FILTER_UNITY: f32 = -FILTER_FLOOR_DB / (FILTER_CEILING_DB - FILTER_FLO
 
 // ---- what a generator says of itself
 impl Generator {
-    // The height at a position, and the steps that a slewed LFO took to it.
-    pub fn at(self, t: f32) -> Height
-        ensures { λ r. ⌜ r ≡ heightOf (self .shape) t ⌝ }
-    {
-        let shape = self.shape;
-        match shape {
-            Shape::Envelope(e) => envelope_height(e, t),
-            Shape::Fade(f) => fade_height(f, t),
-            Shape::Lfo(l) => lfo_height(l, t),
-            Shape::Filter(f) => filter_height(f, t),
-            Shape::Oscillator(o) => oscillator_height(o, t),
-            Shape::Noise(n) => noise_height(n, t),
-        }
-    }
-
     // The height where the shape does nothing.
     pub fn rest(self) -> f32
         ensures { λ r. ⌜ r ≡ restOf (self .shape) ⌝ }

@@ -1,10 +1,9 @@
-// Prints a strip as text, an envelope's with the caption of each sample: the arguments are a generator's code and how many samples, and the block is on standard input. What is refused prints one line, `refused` and the refusal's number.
+// Prints a strip as text, an envelope's with the caption of each sample: the arguments are a generator's code, how many samples, and the turns of the sampled shapes, and the block is on standard input. What is refused prints one line, `refused` and the refusal's number.
 ghost use mathlib.Core.Path.{_≡_};
 ghost use Prim.Native.Nat.{_≤_};
 ghost use lib.ListN.{length};
 use block_strip::StripAnswer;
-use decimal_reading::Number;
-use decimal_reading::read_number;
+use decimal_reading::read_at_most;
 use libc::STDIN_FILENO;
 use libc::STDOUT_FILENO;
 use refusals::Refusal;
@@ -42,16 +41,7 @@ fn argument(i: usize, most: u16) -> u16
 {
     let mut text = [0u8; 16];
     let n = os::arg(i, &mut text);
-    let read = read_number(&text[..n]);
-    match read {
-        Number::Value(value) => {
-            if value < most as u64 {
-                return value as u16;
-            }
-            most
-        }
-        Number::NotANumber => most,
-    }
+    read_at_most(&text[..n], most)
 }
 
 fn print_first(text: &[u8], n: usize) {
@@ -73,10 +63,17 @@ fn print_captioned(block: &[u8], code: u32, heights: &[f32], captions: &mut [u8]
 }
 
 // A strip of n samples, in the first n places of `heights`, and their captions in those of `captions`.
-fn print_strip(block: &[u8], code: u32, heights: &mut [f32], captions: &mut [u8], n: usize)
+fn print_strip(
+    block: &[u8],
+    code: u32,
+    turns: u32,
+    heights: &mut [f32],
+    captions: &mut [u8],
+    n: usize,
+)
     requires { ⌜ (n ≤ length (now heights)) × (n ≤ length (now captions)) ⌝ }
 {
-    let answer = block_strip_once::strip_once(block, code, &mut heights[..n]);
+    let answer = block_strip_turns::strip_once_turns(block, code, turns, &mut heights[..n]);
     match answer {
         StripAnswer::Filled(_) => {
             print_captioned(block, code, &heights[..n], &mut captions[..n]);
@@ -88,9 +85,17 @@ fn print_strip(block: &[u8], code: u32, heights: &mut [f32], captions: &mut [u8]
 fn main() {
     let code = argument(1, 255) as u32;
     let n = argument(2, 4097) as usize;
+    let turns = argument(3, 255) as u32;
     let mut block = [0u8; 243];
     let got = io::read_full(STDIN_FILENO, &mut block);
     let mut heights = samples();
     let mut captions = segments();
-    print_strip(&block[..got], code, &mut heights, &mut captions, n);
+    print_strip(
+        &block[..got],
+        code,
+        turns,
+        &mut heights,
+        &mut captions,
+        n,
+    );
 }

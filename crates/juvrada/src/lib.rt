@@ -9,6 +9,8 @@ ghost use Rattle.block_strip.specs.Promises.{StripAnswered};
 ghost use Rattle.block_strip_once.specs.Promises.{StripOnceAnswered};
 ghost use Rattle.block_captions.specs.Promises.{CaptionsAnswered};
 ghost use Rattle.block_choice.specs.Promises.{Answered};
+ghost use Rattle.block_turns.specs.Promises.{TurnsAnswered, HeightTurnsAnswered};
+ghost use Rattle.block_strip_turns.specs.Promises.{StripTurnsAnswered, StripOnceTurnsAnswered};
 ghost use Rattle.block_settings.specs.Answers.{settingsAnswer, settingsRefusal};
 ghost use Rattle.block_marks.specs.Answers.{marksAnswer, marksRefusal};
 ghost use Rattle.block_generator.specs.Answers.{restAnswer, restRefusal, scaleAnswer, scaleRefusal, anchoredAnswer, anchoredRefusal};
@@ -136,6 +138,47 @@ pub extern "C" fn juvrada_curve_for_end(sustain: u8, wanted: f32) -> CurveResult
     ensures { λ r. ⌜ Returned (λ a. r ≡ curveResult a) (CurveAnswered sustain wanted) ⌝ }
 {
     c_curve::curve_for_end(sustain, wanted)
+}
+
+#[no_mangle]
+pub extern "C" fn juvrada_height_turns(block: &[u8], code: u32, turns: u32, t: f32) -> HeightResult
+    ensures { λ r. ⌜ Returned (λ a. r ≡ heightResult a) (HeightTurnsAnswered (now (block .entry)) code turns t) ⌝ }
+{
+    c_heights::height_turns(block, code, turns, t)
+}
+
+#[no_mangle]
+pub extern "C" fn juvrada_strip_turns(block: &[u8], code: u32, turns: u32, out: &mut [f32]) -> StripResult
+    ensures { λ r. ⌜ Returned (λ a. r ≡ stripResult a) (StripTurnsAnswered (now (block .entry)) code turns (now (out .entry)) (now (out .exit))) ⌝ }
+{
+    c_strip::strip_turns(block, code, turns, out)
+}
+
+#[no_mangle]
+pub extern "C" fn juvrada_strip_once_turns(block: &[u8], code: u32, turns: u32, out: &mut [f32]) -> StripResult
+    ensures { λ r. ⌜ Returned (λ a. r ≡ stripResult a) (StripOnceTurnsAnswered (now (block .entry)) code turns (now (out .entry)) (now (out .exit))) ⌝ }
+{
+    c_strip::strip_once_turns(block, code, turns, out)
+}
+
+#[no_mangle]
+pub extern "C" fn juvrada_marks_turns(
+    block: &[u8],
+    code: u32,
+    turns: u32,
+    at: &mut [f32; MAX_MARKS],
+    kind: &mut [u8; MAX_MARKS],
+) -> CountResult
+    ensures { λ r. ⌜ Returned (λ a. MarksNumbers a (now (at .entry)) (now (at .exit)) (now (kind .entry)) (now (kind .exit)) r) (TurnsAnswered marksAnswer marksRefusal (now (block .entry)) code turns) ⌝ }
+{
+    c_marks::marks_turns(block, code, turns, at, kind)
+}
+
+#[no_mangle]
+pub extern "C" fn juvrada_scale_turns(block: &[u8], code: u32, turns: u32) -> ScaleResult
+    ensures { λ r. ⌜ Returned (λ a. r ≡ scaleResult a) (TurnsAnswered scaleAnswer scaleRefusal (now (block .entry)) code turns) ⌝ }
+{
+    c_generator::scale_turns(block, code, turns)
 }
 
 #[no_mangle]

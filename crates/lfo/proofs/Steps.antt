@@ -10,7 +10,8 @@ use Rattle.exact.specs.Binary32.{_⊗_, zero₃₂}
 use Rattle.lists.proofs.Every.{every, each}
 use Rattle.curve.specs.Curve.{positionOf, drawnOf}
 use Rattle.settings.specs.declared.Lfo.{Lfo}
-use Rattle.settings.specs.Settings.{byteOf}
+use Rattle.settings.specs.declared.SampledTurns.{SampledTurns}
+use Rattle.settings.specs.Settings.{turnsNumber, byteOf}
 use Rattle.settings.proofs.Ranges.{LfoRange}
 use Rattle.lfo_shapes.proofs.DrawnPhase.{Spanned, position-spanned}
 use Rattle.walk.specs.Formula.{walkedOf}
@@ -19,11 +20,11 @@ use Rattle.walk.proofs.Steps.{steps-at}
 use Rattle.lfo.specs.Formula.{lfoHeightOf}
 
 -- ---- THE STEPS OF AN LFO: a slewed one's are those of its phase, and one that is not slewed has none
-pub lfo-steps : (l : Lfo) (t : Float) → LfoRange l → T (not (le (l .slew) zero₃₂)) → T (fits binary32 t) → Steps (positionOf t ⊗ l .turns) (lfoHeightOf l t .steps)
+pub lfo-steps : (n : SampledTurns) (l : Lfo) (t : Float) → LfoRange n l → T (not (le (l .slew) zero₃₂)) → T (fits binary32 t) → Steps (turnsNumber n) (positionOf t ⊗ l .turns) (lfoHeightOf l t .steps)
 unfolding lfoHeightOf walkedOf
-lfo-steps l t r h f =
+lfo-steps n l t r h f =
     simp (is-false (le (l .slew) zero₃₂) h)
-    (steps-at (positionOf t ⊗ l .turns) (subst (λ (n : Float). Spanned (positionOf t ⊗ n)) (sym (r .turns)) (position-spanned (l .shape) t f)))
+    (steps-at n (positionOf t ⊗ l .turns) (subst (λ (x : Float). Spanned n (positionOf t ⊗ x)) (sym (r .turns)) (position-spanned n (l .shape) t f)))
 
 pub no-steps : (l : Lfo) (t : Float) → T (le (l .slew) zero₃₂) → lfoHeightOf l t .steps ≡ 0
 unfolding lfoHeightOf drawnOf

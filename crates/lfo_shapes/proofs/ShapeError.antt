@@ -26,7 +26,9 @@ use Rattle.floor.proofs.Phase.{Phase}
 use Rattle.sine.proofs.SineEnclosure.{sineBound, sine-enclosed}
 use Rattle.settings.specs.declared.LfoShape.{LfoShape}
 use Rattle.settings.specs.declared.LfoShape.the-variants.{Sine, Triangle, Square, RampUp, RampDown, SampleAndHold, SampleAndGlide}
-use Rattle.settings.specs.Settings.{turnsOf}
+use Rattle.settings.specs.declared.SampledTurns.{SampledTurns}
+use Rattle.settings.specs.declared.SampledTurns.the-variants.{Six, Eight}
+use Rattle.settings.specs.Settings.{turnsNumber, turnsOf}
 use Rattle.lfo_shapes.specs.Formula.{sineOf, rampUpOf, rampDownOf, glideOf, shapeAtOf}
 use Rattle.lfo_shapes.specs.Exact.{sineℚ, rampDownℚ, glideℚ, shapeℚ}
 use Rattle.lfo_shapes.proofs.Wrapped.{wrap-fits}
@@ -129,19 +131,24 @@ shape-fits SampleAndHold p = sampled-fits p
 shape-fits SampleAndGlide p = add-fits binary32 _ _
 
 -- ---- DRAWN, at a position from 0 to 1
-reached : (s : LfoShape) {p : Float} → Spanned p → Reached s p
+-- n turns are few
+few-turns : (n : SampledTurns) → ratio (turnsNumber n) 1 ≤ℚ ratio 16777216 1
+few-turns Six = leZ-yes tt
+few-turns Eight = leZ-yes tt
+
+reached : {n : SampledTurns} (s : LfoShape) {p : Float} → Spanned n p → Reached s p
 reached Sine h = tt
 reached Triangle h = tt
 reached Square h = tt
 reached RampUp h = tt
 reached RampDown h = tt
 reached SampleAndHold h = tt
-reached SampleAndGlide {p} h = ≤ℚ-trans (value p) (ratio 6 1) (ratio 16777216 1) (lit< tt) (h .to) (leZ-yes tt)
+reached {n} SampleAndGlide {p} h = ≤ℚ-trans (value p) (ratio (turnsNumber n) 1) (ratio 16777216 1) (lit< tt) (h .to) (few-turns n)
 
-pub shape-drawn : (s : LfoShape) (t : Float) → T (fits binary32 t)
-    → Drawn (drawnOf (shapeAtOf s (positionOf t ⊗ turnsOf s)) .height) (clampUnitℚ (shapeℚ s (value (positionOf t ⊗ turnsOf s)))) (ratio 1 262144)
-shape-drawn s t f =
-    let p = positionOf t ⊗ turnsOf s in
-    let w = position-spanned s t f in
+pub shape-drawn : (n : SampledTurns) (s : LfoShape) (t : Float) → T (fits binary32 t)
+    → Drawn (drawnOf (shapeAtOf s (positionOf t ⊗ turnsOf n s)) .height) (clampUnitℚ (shapeℚ s (value (positionOf t ⊗ turnsOf n s)))) (ratio 1 262144)
+shape-drawn n s t f =
+    let p = positionOf t ⊗ turnsOf n s in
+    let w = position-spanned n s t f in
     let h = spanned-phase w in
     drawn-near (shapeAtOf s p) (shapeℚ s (value p)) 1 262144 (shape-fits s p) (shape-near s p (w .holds) h (reached s w))

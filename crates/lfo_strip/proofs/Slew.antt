@@ -8,7 +8,7 @@ use Rattle.settings.specs.declared.Lfo.{Lfo}
 use Rattle.lfo_shapes.specs.Formula.{shapeAtOf}
 use Rattle.lfo.specs.Formula.{slewedOf, lfoHeightOf}
 use Rattle.generator.specs.declared.Shape.the-variants.{Lfo as AnLfo}
-use Rattle.generator.specs.Heights.{heightOf}
+use Rattle.shape_heights.specs.Heights.{heightOf}
 
 module _ (l : Lfo) (t : Float) where
   pub without-slew : le (l .slew) zero₃₂ ≡ true → positionOf t ≡ t → clampUnitOf (shapeAtOf (l .shape) (t ⊗ l .turns)) ≡ heightOf (AnLfo l) t .height

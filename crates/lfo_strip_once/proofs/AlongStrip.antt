@@ -15,7 +15,7 @@ use Rattle.walk.specs.Reached.{reachedOf, fullOn}
 use Rattle.walk.proofs.Onward.{full-reached, may-go, full-steps-small}
 use Rattle.lfo.specs.Formula.{lfoHeightOf}
 use Rattle.generator.specs.declared.Shape.the-variants.{Lfo as AnLfo}
-use Rattle.generator.specs.Heights.{heightOf}
+use Rattle.shape_heights.specs.Heights.{heightOf}
 use Rattle.strip.specs.Strip.{partOf, samplePosition, sampleOf}
 use Rattle.strip.proofs.SamplePositions.{sample-position}
 use Rattle.lfo_strip_once.specs.Once.{onceFrom, stepsOnce, forward}

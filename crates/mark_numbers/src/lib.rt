@@ -13,7 +13,7 @@ use refusals::answer_refusal;
 
 // ---- the first places are written, the others stay
 fn marks_used(marks: Marks) -> usize
-    ensures { λ r. ⌜ (r ≡ marksUsed marks) × (r ≤ 6) ⌝ }
+    ensures { λ r. ⌜ (r ≡ marksUsed marks) × (r ≤ 8) ⌝ }
 {
     at_most(marks.count, MAX_MARKS)
 }

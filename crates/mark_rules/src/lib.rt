@@ -23,7 +23,7 @@ fn put_kind(out: &mut [u8], at: usize, kind: MarkKind) -> usize
 }
 
 fn put_rule(out: &mut [u8], at: usize, row: usize, across: u64) -> usize
-    requires { ⌜ row < 6 ⌝ }
+    requires { ⌜ row < 8 ⌝ }
     ensures { λ r. ⌜ Puts (now (out .entry)) at (ruleText row across) (now (out .exit)) r ⌝ }
 {
     let mut next = put(out, at, b"<path class='v' d='M");
@@ -34,7 +34,7 @@ fn put_rule(out: &mut [u8], at: usize, row: usize, across: u64) -> usize
 }
 
 fn put_label(out: &mut [u8], at: usize, row: usize, across: u64, kind: MarkKind) -> usize
-    requires { ⌜ row < 6 ⌝ }
+    requires { ⌜ row < 8 ⌝ }
     ensures { λ r. ⌜ Puts (now (out .entry)) at (labelText row across kind) (now (out .exit)) r ⌝ }
 {
     let mut next = put(out, at, b"<text x='");
@@ -46,7 +46,7 @@ fn put_label(out: &mut [u8], at: usize, row: usize, across: u64, kind: MarkKind)
 }
 
 pub fn put_mark(out: &mut [u8], at: usize, row: usize, mark: Mark) -> usize
-    requires { ⌜ row < 6 ⌝ }
+    requires { ⌜ row < 8 ⌝ }
     ensures { λ r. ⌜ Puts (now (out .entry)) at (markText row mark) (now (out .exit)) r ⌝ }
 {
     let across = nearest(mark.at, 5000);

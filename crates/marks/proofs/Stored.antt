@@ -1,4 +1,4 @@
--- A RECORD OF MARKS HOLDS THE FIRST SIX OF A LIST: a push appends to the list, and at most six are counted. Assumes nothing.
+-- A RECORD OF MARKS HOLDS THE FIRST EIGHT OF A LIST: a push appends to the list, and at most eight are counted. Assumes nothing.
 use mathlib.Core.Path.{_≡_, refl, ap, _∙_}
 use mathlib.Core.List.{List, [], _∷_, _++_, append-nil, append-assoc}
 use mathlib.Core.Bool.{true, false}
@@ -20,7 +20,9 @@ pushed-stored (a ∷ b ∷ []) k = refl
 pushed-stored (a ∷ b ∷ c ∷ []) k = refl
 pushed-stored (a ∷ b ∷ c ∷ d ∷ []) k = refl
 pushed-stored (a ∷ b ∷ c ∷ d ∷ e ∷ []) k = refl
-pushed-stored (a ∷ b ∷ c ∷ d ∷ e ∷ f ∷ ks) k = refl
+pushed-stored (a ∷ b ∷ c ∷ d ∷ e ∷ f ∷ []) k = refl
+pushed-stored (a ∷ b ∷ c ∷ d ∷ e ∷ f ∷ g ∷ []) k = refl
+pushed-stored (a ∷ b ∷ c ∷ d ∷ e ∷ f ∷ g ∷ h ∷ ks) k = refl
 
 -- The record after one push more.
 pub push-more : (ks : List Mark) (k : Mark) {m r : Marks} → m ≡ stored ks → r ≡ pushed m k → r ≡ stored (ks ++ (k ∷ []))

@@ -1,4 +1,4 @@
--- THE MARKS OF EACH FAMILY: docs/SPECIFICATION.md, "Marks, rest, scale, anchor, gates". A family's marks are a list; at most six of it are stored. Definitions only.
+-- THE MARKS OF EACH FAMILY: docs/SPECIFICATION.md, "Marks, rest, scale, anchor, gates". A family's marks are a list; at most eight of it are stored. Definitions only.
 use mathlib.Core.Bool.{cond}
 use mathlib.Core.List.{List, [], _∷_, _++_}
 use Prim.Native.Nat.{ℕ, zero, suc, _+_}
@@ -36,7 +36,7 @@ kindNumber Sweep = 8
 -- ---- a record of marks
 -- The places of a record.
 abbrev pub maxMarks : ℕ
-maxMarks = 6
+maxMarks = 8
 
 abbrev pub markOf : Float → MarkKind → Mark
 markOf x k = record { at = x; kind = k }
@@ -51,7 +51,7 @@ countOf zero ks = 0
 countOf (suc n) [] = 0
 countOf (suc n) (k ∷ ks) = suc (countOf n ks)
 
--- The record of a list's marks: those past the sixth are dropped.
+-- The record of a list's marks: those past the eighth are dropped.
 unfoldable pub stored : List Mark → Marks
 stored ks = record { places = padded unused maxMarks ks; count = countOf maxMarks ks }
 
@@ -68,7 +68,7 @@ unfoldable pub pushedAll : Marks → List Mark → Marks
 pushedAll m [] = m
 pushedAll m (k ∷ ks) = pushedAll (pushed m k) ks
 
--- Mark number i: past the six places, which no use reaches, an attack at a NaN.
+-- Mark number i: past the eight places, which no use reaches, an attack at a NaN.
 abbrev pub markAt : Marks → ℕ → Mark
 markAt marks i = getD (marks .places) i (markOf nan (ASegment Attack))
 

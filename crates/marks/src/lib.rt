@@ -1,4 +1,4 @@
-// Marks: where along the horizontal of a picture something happens, and what. A record of at most six, the marks of each family, and the numbers of their kinds.
+// Marks: where along the horizontal of a picture something happens, and what. A record of at most eight, the marks of each family, and the numbers of their kinds.
 ghost use mathlib.Core.Path.{_≡_};
 ghost use Rattle.marks.specs.Marks.{segmentNumber, kindNumber, noMarks, markOf, pushed, pushedAll, stored, cyclesOf, envelopeMarks, fadeMarks, pulseMarks, oscillatorMarks};
 use settings::Envelope;
@@ -29,7 +29,7 @@ pub struct Mark {
 }
 
 // The most marks that a shape has.
-pub const MAX_MARKS: usize = 6;
+pub const MAX_MARKS: usize = 8;
 
 // The first `count` places are marks; the others all hold one mark, which says nothing.
 pub struct Marks {

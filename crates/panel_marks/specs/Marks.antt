@@ -4,7 +4,7 @@ use Prim.Native.Nat.{ℕ, zero, suc, min}
 use Rattle.marks.specs.declared.MarkKind.{MarkKind}
 use Rattle.marks.specs.declared.MarkKind.the-variants.{Segment as ASegment, Corner, Cycle, Tap, Width, Sweep}
 use Rattle.marks.specs.declared.Marks.{Marks}
-use Rattle.marks.specs.Marks.{markAt}
+use Rattle.marks.specs.Marks.{maxMarks, markAt}
 use Rattle.mark_rules.specs.Rules.{markText}
 
 -- The row of mark number k under the frame: a row for each mark, so that two at one place are both read; cycles share
@@ -22,6 +22,6 @@ unfoldable pub rulesText : Marks → ℕ → List ℕ
 rulesText m zero = []
 rulesText m (suc k) = rulesText m k ++ markText (rowOf k (markAt m k .kind)) (markAt m k)
 
--- All that are used; a record has six places.
+-- All that are used.
 unfoldable pub marksText : Marks → List ℕ
-marksText m = rulesText m (min (m .count) 6)
+marksText m = rulesText m (min (m .count) maxMarks)

@@ -10,8 +10,8 @@ use marks::MarkKind;
 use marks::Marks;
 
 fn row(k: usize, kind: MarkKind) -> usize
-    requires { ⌜ k < 6 ⌝ }
-    ensures { λ r. ⌜ (r ≡ rowOf k kind) × (r < 6) ⌝ }
+    requires { ⌜ k < 8 ⌝ }
+    ensures { λ r. ⌜ (r ≡ rowOf k kind) × (r < 8) ⌝ }
 {
     match kind {
         MarkKind::Segment(_) => k,

@@ -2,12 +2,13 @@
 ghost use mathlib.Core.Path.{_≡_};
 ghost use Rattle.refusals.specs.Refusals.{refusalNumber, answerRefusal};
 
-// The block's length, the code, the strip's length, a level that is none.
+// The block's length, the code, the strip's length, a level that is none, a number of turns other than 6 or 8.
 pub enum Refusal {
     Block,
     Code,
     Strip,
     Level,
+    Turns,
 }
 
 // An answer with nothing beside it, or with arrays, which an enum does not hold.
@@ -24,6 +25,7 @@ pub fn refusal_number(r: Refusal) -> u32
         Refusal::Code => 2,
         Refusal::Strip => 3,
         Refusal::Level => 4,
+        Refusal::Turns => 5,
     }
 }
 

@@ -20,6 +20,7 @@ use settings::Lfo;
 use settings::LfoShape;
 use settings::Oscillator;
 use settings::Pass;
+use shape_heights::shape_height;
 use taps::Taps;
 
 // A word, or nothing where there is none to be had.
@@ -222,7 +223,7 @@ pub fn of_generator(g: Generator, letter: u8, i: u32, position: u32) -> Answer {
     let shape = g.shape;
     match letter {
         b'S' => setting(shape, i),
-        b'H' => height(g.at(float_of(position)), i),
+        b'H' => height(shape_height(shape, float_of(position)), i),
         b'R' => of_float(g.rest()),
         b'C' => scale(g.scale(), i),
         b'A' => of_flag(g.anchored()),

@@ -13,7 +13,7 @@ use Rattle.settings.specs.declared.Pass.{Pass}
 use Rattle.settings.specs.declared.Pass.the-variants.{Low, High}
 use Rattle.settings.specs.declared.Oscillator.{Oscillator}
 use Rattle.settings.specs.declared.Filter.{Filter}
-use Rattle.settings.specs.Settings.{byteOf, lfoShapeOf, turnsOf, lfoOf, fadeOf, poleSlopeOf, lowPassOf, highPassOf, depthOf, widthOf, sweepOf, oscillatorOneOf, oscillatorTwoOf, noiseOf}
+use Rattle.settings.specs.Settings.{byteOf, lfoShapeOf, lfoOf, fadeOf, poleSlopeOf, lowPassOf, highPassOf, depthOf, widthOf, sweepOf, oscillatorOneOf, oscillatorTwoOf, noiseOf}
 
 -- the float has these bits; the switch is on where the number is 1
 is : Float → ℕ → Bool

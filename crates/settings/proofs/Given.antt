@@ -8,7 +8,8 @@ use lib.Ieee.Fits.{and-l, and-r, add-fits, mul-fits, div-fits}
 use Rattle.exact.specs.Binary32.{_⊕_, _⊘_, bits, zero₃₂, half₃₂, one₃₂}
 use Rattle.lists.proofs.Every.{every, each}
 use Rattle.curve.proofs.Positions.{Level}
-use Rattle.settings.specs.Settings.{byteOf, lfoOf, fadeOf, poleSlopeOf, lowPassOf, highPassOf, isManual, depthOf, widthOf, sweepOf, oscillatorOneOf, oscillatorTwoOf, noiseOf}
+use Rattle.settings.specs.declared.SampledTurns.{SampledTurns}
+use Rattle.settings.specs.Settings.{byteOf, lfoOf, turnedLfo, fadeOf, poleSlopeOf, lowPassOf, highPassOf, isManual, depthOf, widthOf, sweepOf, oscillatorOneOf, oscillatorTwoOf, noiseOf}
 use Rattle.settings.proofs.Ranges.{LfoRange, FadeRange, Slope, six, twelve, twenty-four, FilterRange, OscillatorRange, NoiseRange}
 use Rattle.settings.proofs.Bytes.{unit, unit-level, byte-level}
 
@@ -25,9 +26,9 @@ unfolding fits ofBits unit
 one-level = unit-level one₃₂ tt tt
 
 -- ---- LFO and fade
-pub lfo-range : (shape slew sync : ℕ) (unipolar : Bool) → slew < 256 → LfoRange (lfoOf shape slew sync unipolar)
-unfolding lfoOf
-lfo-range shape slew sync unipolar h = record { slew = byte-level slew h; turns = refl }
+pub lfo-range : (n : SampledTurns) (shape slew sync : ℕ) (unipolar : Bool) → slew < 256 → LfoRange n (turnedLfo n (lfoOf shape slew sync unipolar))
+unfolding lfoOf turnedLfo
+lfo-range n shape slew sync unipolar h = record { slew = byte-level slew h; turns = refl }
 
 -- where a fade ends
 abbrev end : ℕ → Float

@@ -5,6 +5,7 @@ use lib.Ieee.{Float, binary32, fits, lt, le}
 use Rattle.exact.specs.Binary32.{bits, zero₃₂, quarter₃₂, one₃₂}
 use Rattle.curve.proofs.Positions.{Level}
 use Rattle.settings.specs.declared.Envelope.{Envelope}
+use Rattle.settings.specs.declared.SampledTurns.{SampledTurns}
 use Rattle.settings.specs.declared.Lfo.{Lfo}
 use Rattle.settings.specs.declared.Fade.{Fade}
 use Rattle.settings.specs.declared.Filter.{Filter}
@@ -33,9 +34,10 @@ pub record EnvelopeRange (e : Envelope) : Type 0 where
   pub decay : BendRange (e .«decay_bend»)
   pub release : BendRange (e .«release_bend»)
 
-pub record LfoRange (l : Lfo) : Type 0 where
+-- at n turns of the sampled shapes
+pub record LfoRange (n : SampledTurns) (l : Lfo) : Type 0 where
   pub slew : Level (l .slew)
-  pub turns : l .turns ≡ turnsOf (l .shape)
+  pub turns : l .turns ≡ turnsOf n (l .shape)
 
 -- The rise ends below 1.
 pub record FadeRange (f : Fade) : Type 0 where

@@ -8,6 +8,8 @@ use lib.Ieee.{Float, binary32, ofInt}
 use Rattle.exact.specs.Binary32.{_⊕_, _⊗_, _⊘_, bits, zero₃₂, half₃₂, one₃₂}
 use Rattle.settings.specs.declared.LfoShape.{LfoShape}
 use Rattle.settings.specs.declared.LfoShape.the-variants.{Sine, Triangle, Square, RampUp, RampDown, SampleAndHold, SampleAndGlide}
+use Rattle.settings.specs.declared.SampledTurns.{SampledTurns}
+use Rattle.settings.specs.declared.SampledTurns.the-variants.{Six, Eight}
 use Rattle.settings.specs.declared.Lfo.{Lfo}
 use Rattle.settings.specs.declared.Fade.{Fade}
 use Rattle.settings.specs.declared.Pass.the-variants.{Low, High}
@@ -30,22 +32,36 @@ lfoShapeOf b =
     (cond (eqb b 5) SampleAndHold
     (cond (eqb b 6) SampleAndGlide Sine)))))
 
--- The cycles that are drawn: 6 of the sampled shapes, 1 of all others.
-abbrev pub turnsOf : LfoShape → Float
-turnsOf Sine = one₃₂
-turnsOf Triangle = one₃₂
-turnsOf Square = one₃₂
-turnsOf RampUp = one₃₂
-turnsOf RampDown = one₃₂
-turnsOf SampleAndHold = bits 0x40c0_0000
-turnsOf SampleAndGlide = bits 0x40c0_0000
+-- How many cycles of a sampled shape are drawn, 6 or 8: the number, and as a float.
+abbrev pub turnsNumber : SampledTurns → ℕ
+turnsNumber Six = 6
+turnsNumber Eight = 8
+
+abbrev pub sampledTurns : SampledTurns → Float
+sampledTurns Six = bits 0x40c0_0000
+sampledTurns Eight = bits 0x4100_0000
+
+-- The cycles that are drawn of a shape: one of those that are not sampled.
+abbrev pub turnsOf : SampledTurns → LfoShape → Float
+turnsOf n Sine = one₃₂
+turnsOf n Triangle = one₃₂
+turnsOf n Square = one₃₂
+turnsOf n RampUp = one₃₂
+turnsOf n RampDown = one₃₂
+turnsOf n SampleAndHold = sampledTurns n
+turnsOf n SampleAndGlide = sampledTurns n
 
 -- A switch is on where its byte is not 0.
 abbrev pub isOn : ℕ → Bool
 isOn b = not (eqb b 0)
 
+-- A sampled shape has 6 turns.
 unfoldable pub lfoOf : ℕ → ℕ → ℕ → Bool → Lfo
-lfoOf shape slew sync unipolar = record { shape = lfoShapeOf shape; turns = turnsOf (lfoShapeOf shape); slew = byteOf slew; unipolar = unipolar; synced = isOn sync }
+lfoOf shape slew sync unipolar = record { shape = lfoShapeOf shape; turns = turnsOf Six (lfoShapeOf shape); slew = byteOf slew; unipolar = unipolar; synced = isOn sync }
+
+-- The same LFO at n turns of the sampled shapes: those of its own shape. All else stays.
+unfoldable pub turnedLfo : SampledTurns → Lfo → Lfo
+turnedLfo n l = record { shape = l .shape; turns = turnsOf n (l .shape); slew = l .slew; unipolar = l .unipolar; synced = l .synced }
 
 -- ---- fade
 unfoldable pub fadeOf : ℕ → Fade

@@ -1,6 +1,6 @@
 // The settings of each generator: plain data, built by value from a program's bytes. An envelope's are built in envelope_settings.
 ghost use mathlib.Core.Path.{_≡_};
-ghost use Rattle.settings.specs.Settings.{byteOf, lfoShapeOf, turnsOf, lfoOf, fadeOf, lowPassOf, highPassOf, poleSlopeOf, isManual, oscillatorOneOf, oscillatorTwoOf, noiseOf};
+ghost use Rattle.settings.specs.Settings.{byteOf, lfoShapeOf, sampledTurns, turnsOf, lfoOf, turnedLfo, fadeOf, lowPassOf, highPassOf, poleSlopeOf, isManual, oscillatorOneOf, oscillatorTwoOf, noiseOf};
 use math::from_u16;
 
 // Where an envelope's attack, decay and sustain end, its two levels, and the bends of its timed segments.
@@ -23,6 +23,12 @@ pub enum LfoShape {
     RampDown,
     SampleAndHold,
     SampleAndGlide,
+}
+
+// How many cycles of a sampled shape are drawn.
+pub enum SampledTurns {
+    Six,
+    Eight,
 }
 
 pub struct Lfo {
@@ -94,9 +100,18 @@ pub fn shape_from(raw: u8) -> LfoShape
     }
 }
 
-// The cycles that are drawn.
-pub fn turns(shape: LfoShape) -> f32
-    ensures { λ r. ⌜ r ≡ turnsOf shape ⌝ }
+fn sampled_turns(sampled: SampledTurns) -> f32
+    ensures { λ r. ⌜ r ≡ sampledTurns sampled ⌝ }
+{
+    match sampled {
+        SampledTurns::Six => 6.0,
+        SampledTurns::Eight => 8.0,
+    }
+}
+
+// The cycles that are drawn: of a sampled shape so many, of every other shape one.
+pub fn turns(sampled: SampledTurns, shape: LfoShape) -> f32
+    ensures { λ r. ⌜ r ≡ turnsOf sampled shape ⌝ }
 {
     match shape {
         LfoShape::Sine => 1.0,
@@ -104,8 +119,8 @@ pub fn turns(shape: LfoShape) -> f32
         LfoShape::Square => 1.0,
         LfoShape::RampUp => 1.0,
         LfoShape::RampDown => 1.0,
-        LfoShape::SampleAndHold => 6.0,
-        LfoShape::SampleAndGlide => 6.0,
+        LfoShape::SampleAndHold => sampled_turns(sampled),
+        LfoShape::SampleAndGlide => sampled_turns(sampled),
     }
 }
 
@@ -114,10 +129,24 @@ pub fn lfo_from(shape: u8, slew: u8, sync: u8, unipolar: bool) -> Lfo
 {
     Lfo {
         shape: shape_from(shape),
-        turns: turns(shape_from(shape)),
+        turns: turns(SampledTurns::Six, shape_from(shape)),
         slew: byte(slew),
         unipolar,
         synced: sync != 0,
+    }
+}
+
+// The same LFO with its shape's turns at another number for the sampled ones.
+pub fn turned_lfo(sampled: SampledTurns, lfo: Lfo) -> Lfo
+    ensures { λ r. ⌜ r ≡ turnedLfo sampled lfo ⌝ }
+{
+    let shape = lfo.shape;
+    Lfo {
+        shape,
+        turns: turns(sampled, shape),
+        slew: lfo.slew,
+        unipolar: lfo.unipolar,
+        synced: lfo.synced,
     }
 }
 

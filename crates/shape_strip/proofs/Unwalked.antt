@@ -11,7 +11,7 @@ use Rattle.oscillator.specs.Formula.{oscillatorHeightOf}
 use Rattle.noise.specs.Formula.{noiseHeightOf}
 use Rattle.generator.specs.declared.Shape.{Shape}
 use Rattle.generator.specs.declared.Shape.the-variants.{Envelope as AnEnvelope, Fade as AFade, Lfo as AnLfo, Filter as AFilter, Oscillator as AnOscillator, Noise as ANoise}
-use Rattle.generator.specs.Heights.{heightOf}
+use Rattle.shape_heights.specs.Heights.{heightOf}
 use Rattle.strip.specs.Strip.{stepSum}
 use Rattle.lfo_strip_once.specs.Once.{stepsOnce}
 use Rattle.lfo_strip_once.proofs.Laws.{unwalked}

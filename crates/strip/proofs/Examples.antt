@@ -12,14 +12,14 @@ use Rattle.math.specs.Formulas.{clampOf}
 use Rattle.floor.specs.Formula.{floorOf, fractOf}
 use Rattle.lists.proofs.Rows.{allPass}
 use Rattle.curve.specs.Curve.{positionOf, drawnOf}
-use Rattle.settings.specs.Settings.{byteOf, lfoShapeOf, turnsOf, lfoOf}
+use Rattle.settings.specs.Settings.{byteOf, lfoShapeOf, lfoOf}
 use Rattle.lfo_shapes.specs.Formula.{wrapOf, triangleOf, shapeAtOf}
 use Rattle.walk.specs.Formula.{stepOf, placeOf, fullSteps, walkedOf}
 use Rattle.walk.proofs.Steps.{steps-to-place}
 use Rattle.lfo.specs.Formula.{lfoHeightOf}
 use Rattle.generator.specs.declared.Shape.{Shape}
 use Rattle.generator.specs.declared.Shape.the-variants.{Lfo as AnLfo}
-use Rattle.generator.specs.Heights.{heightOf}
+use Rattle.shape_heights.specs.Heights.{heightOf}
 use Rattle.strip.specs.Strip.{samplePosition, sampleOf, lengthFits, stepSum, stepsOf, stripOf}
 use Rattle.lists.specs.Written.{written}
 

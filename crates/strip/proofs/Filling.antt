@@ -9,7 +9,7 @@ use lib.ListN.{length, length-set, set}
 use lib.Ieee.{Float}
 use Rattle.curve.specs.declared.Height.{Height}
 use Rattle.generator.specs.declared.Shape.{Shape}
-use Rattle.generator.specs.Heights.{heightOf}
+use Rattle.shape_heights.specs.Heights.{heightOf}
 use Rattle.lists.specs.Written.{written}
 use Rattle.lists.proofs.Written.{written-next}
 use Rattle.strip.specs.Strip.{partOf, samplePosition, sampleOf, filledOf, stepSum}

@@ -19,7 +19,7 @@ use Rattle.walk.proofs.Onward.{full-steps-small}
 use Rattle.lfo.specs.Formula.{lfoHeightOf}
 use Rattle.generator.specs.declared.Shape.{Shape}
 use Rattle.generator.specs.declared.Shape.the-variants.{Envelope as AnEnvelope, Fade as AFade, Lfo as AnLfo, Filter as AFilter, Oscillator as AnOscillator, Noise as ANoise}
-use Rattle.generator.specs.Heights.{heightOf}
+use Rattle.shape_heights.specs.Heights.{heightOf}
 use Rattle.strip.specs.Strip.{samplePosition, sampleOf, filledOf, stepSum}
 use Rattle.lists.proofs.Written.{written-length, written-at}
 

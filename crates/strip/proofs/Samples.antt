@@ -10,7 +10,7 @@ use lib.ListN.{length, getD}
 use lib.Ieee.{Float, nan, binary32, ofInt, fits}
 use lib.Ieee.Fits.{div-fits}
 use Rattle.generator.specs.declared.Shape.{Shape}
-use Rattle.generator.specs.Heights.{heightOf}
+use Rattle.shape_heights.specs.Heights.{heightOf}
 use Rattle.strip.specs.Strip.{samplePosition, lengthFits, filledOf, stripOf}
 use Rattle.strip.proofs.Laws.{filled-length, filled-at}
 

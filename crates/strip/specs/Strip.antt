@@ -10,7 +10,7 @@ use Rattle.lists.specs.Written.{written}
 use Rattle.exact.specs.Binary32.{_⊘_}
 use Rattle.curve.specs.declared.Height.{Height}
 use Rattle.generator.specs.declared.Shape.{Shape}
-use Rattle.generator.specs.Heights.{heightOf}
+use Rattle.shape_heights.specs.Heights.{heightOf}
 
 -- Number i of those from 0 to `last`, spread from 0 to 1.
 abbrev pub partOf : ℕ → ℕ → Float

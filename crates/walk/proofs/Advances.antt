@@ -17,13 +17,15 @@ use Rattle.exact.proofs.Defined.{value-defined}
 use Rattle.math.proofs.Nan.{finite-number}
 use Rattle.math.specs.Formulas.{minOf}
 use Rattle.floor.proofs.Phase.{Phase, from-zero, phase-finite}
+use Rattle.settings.specs.declared.SampledTurns.{SampledTurns}
+use Rattle.settings.specs.declared.SampledTurns.the-variants.{Eight}
 use Rattle.lfo_shapes.proofs.DrawnPhase.{Spanned, spanned-phase}
 use Rattle.walk.specs.Formula.{placeOf}
-use Rattle.walk.proofs.Places.{place-fits, place-finite, place-start, place-end, place-phase, at-most-later, next-near}
+use Rattle.walk.proofs.Places.{place-fits, place-finite, place-start, place-turns, place-phase, at-most-later, next-near}
 
--- ---- where the walk ends
-abbrev pub six₃₂ : Float
-six₃₂ = bits 0x40c0_0000
+-- ---- where the longest walk ends
+abbrev pub eight₃₂ : Float
+eight₃₂ = bits 0x4100_0000
 
 -- ---- A STEP from a place to a phase
 pub record Stepped (p q : Float) : Type 0 where
@@ -33,11 +35,11 @@ pub record Stepped (p q : Float) : Type 0 where
   pub phase : Phase q
   pub lowest : value (neg one₃₂) ≤ℚ value p
   pub order : value p ≤ℚ value q
-  pub highest : value q ≤ℚ value six₃₂
+  pub highest : value q ≤ℚ value eight₃₂
   pub near : value q -ℚ value p ≤ℚ ratio 1 85
 
 -- a full step
-pub stepped : (k : ℕ) → k < 672 → Stepped (placeOf k) (placeOf (suc k))
+pub stepped : (k : ℕ) → k < 864 → Stepped (placeOf k) (placeOf (suc k))
 stepped k h =
     record {
       start = place-fits k;
@@ -46,7 +48,7 @@ stepped k h =
       phase = place-phase (suc k) h;
       lowest = subst (λ (x : Float). value x ≤ℚ value (placeOf k)) place-start (at-most-later 0 k (omega arith) (omega arith));
       order = at-most-later k (suc k) (omega arith) h;
-      highest = subst (λ (x : Float). value (placeOf (suc k)) ≤ℚ value x) place-end (at-most-later (suc k) 672 h (lit≤ tt));
+      highest = subst (λ (x : Float). value (placeOf (suc k)) ≤ℚ value x) (place-turns Eight) (at-most-later (suc k) 864 h (lit≤ tt));
       near = next-near k h;
     }
 
@@ -62,7 +64,7 @@ sooner {p} {q} x s f h l u =
       phase = h;
       lowest = s .lowest;
       order = l;
-      highest = ≤ℚ-trans (value x) (value q) (value six₃₂) Q u (s .highest);
+      highest = ≤ℚ-trans (value x) (value q) (value eight₃₂) Q u (s .highest);
       near = ≤ℚ-trans (value x -ℚ value p) (value q -ℚ value p) (ratio 1 85) (mul-pos Q P) (difference-monotone (value x) (value q) (value p) u) (s .near);
     }
 
@@ -76,9 +78,9 @@ at-zero {p} {q} s e =
     sooner zero₃₂ s tt (from-zero tt (parts-≤ℚ (whole (pos 0)) (whole (pos 0)) (lit≤ tt)))
     (≤ℚ-trans (value p) (value q) (value zero₃₂) (e .left) (s .order) (equal-at-most e .le)) (equal-at-most (equal-sym e) .le)
 
-pub cut : {p q : Float} (x : Float) → Stepped p q → Spanned x → value p ≤ℚ value x → Stepped p (minOf q x)
+pub cut : {n : SampledTurns} {p q : Float} (x : Float) → Stepped p q → Spanned n x → value p ≤ℚ value x → Stepped p (minOf q x)
 unfolding minOf
-cut {p} {q} x s h l =
+cut {p = p} {q = q} x s h l =
     let Q = phase-finite q (s .phase) in
     let X = h .number in
     rw (finite-number q Q, finite-number x X) (go (lt q x) (lt x q) (eq q zero₃₂) (λ t. lt-at-most x q X Q t .le) (λ t. eq-value q zero₃₂ Q zero-finite .0 t))

@@ -25,7 +25,7 @@ use Rattle.rounding.proofs.OwnRange.{widened, own-range, approximates-finite}
 use Rattle.floor.proofs.Phase.{phase-finite}
 use Rattle.walk.specs.Formula.{limitOf}
 use Rattle.walk.specs.Exact.{limitℚ}
-use Rattle.walk.proofs.Advances.{Stepped, six₃₂}
+use Rattle.walk.proofs.Advances.{Stepped, eight₃₂}
 use Rattle.walk.proofs.ProductSign.{product-nonnegative, product-at-most, mul-nonnegative}
 
 -- ---- THE LIMIT OF A CYCLE, for a slew from 1/255 to 1
@@ -93,17 +93,17 @@ limit-relative x h =
 -- ---- THE DISTANCE GONE
 placeBound : Bound
 unfolding range
-placeBound = range binary32 (neg one₃₂) six₃₂
+placeBound = range binary32 (neg one₃₂) eight₃₂
 
-place-input : (x : Float) → T (fits binary32 x) → T (finite x) → value (neg one₃₂) ≤ℚ value x → value x ≤ℚ value six₃₂ → Approximates binary32 x (value x) placeBound
+place-input : (x : Float) → T (fits binary32 x) → T (finite x) → value (neg one₃₂) ≤ℚ value x → value x ≤ℚ value eight₃₂ → Approximates binary32 x (value x) placeBound
 unfolding placeBound constantOf ofBits neg
-place-input x f t l h = input binary32 x (neg one₃₂) six₃₂ f tt tt (le-value (neg one₃₂) x tt t .1 l) (le-value x six₃₂ t tt .1 h)
+place-input x f t l h = input binary32 x (neg one₃₂) eight₃₂ f tt tt (le-value (neg one₃₂) x tt t .1 l) (le-value x eight₃₂ t tt .1 h)
 
 gone : Expr
 gone = minus (var 0) (var 1)
 
 goneBound : Bound
-goneBound = record { lo = negsuc (8 * 2 ^ 149); hi = pos (8 * 2 ^ 149); err = 2 ^ 149 }
+goneBound = record { lo = negsuc (16 * 2 ^ 149); hi = pos (16 * 2 ^ 149); err = 2 ^ 149 }
 
 gone-ok : T (concludes binary32 (two placeBound placeBound) gone goneBound)
 unfolding concludes covers analyse gone placeBound goneBound range two ofBits neg
@@ -118,7 +118,7 @@ gone-bounded p q s =
     concluded binary32 (two q p) (two (value q) (value p)) (two placeBound placeBound)
     (two-inputs binary32 q p (value q) (value p) placeBound placeBound
     (place-input q (s .stop) Q (≤ℚ-trans (value (neg one₃₂)) (value p) (value q) dp (s .lowest) (s .order)) (s .highest))
-    (place-input p (s .start) (s .number) (s .lowest) (≤ℚ-trans (value p) (value q) (value six₃₂) dq (s .order) (s .highest))))
+    (place-input p (s .start) (s .number) (s .lowest) (≤ℚ-trans (value p) (value q) (value eight₃₂) dq (s .order) (s .highest))))
     gone (plainly binary32 (two (value q) (value p)) gone tt) goneBound gone-ok
 
 gone-relative : (p q : Float) → Stepped p q → RelativelyWithin (value (q ⊖ p)) (value q -ℚ value p) (ratio 1 (2 ^ 24))

@@ -1,4 +1,4 @@
--- THE POSITIONS OF THE WALK, counts 0 to 672: each above the one before by at most 1/85, from -1 to 6, the halves among them met exactly. Those below 0 are multiples of 2 ^ -24, so that `fract` is
+-- THE POSITIONS OF THE WALK, counts 0 to 864: each above the one before by at most 1/85, from -1 to 8, the halves among them met exactly. Those below 0 are multiples of 2 ^ -24, so that `fract` is
 -- exact on all. Computed over the table of counts. Assumes nothing.
 use mathlib.Core.Path.{_≡_, refl, sym, subst}
 use mathlib.Core.Logic.{inl, inr}
@@ -14,11 +14,14 @@ use lib.Ieee.Fits.{and-l, and-r, add-fits}
 use lib.Ieee.Scale.{finite}
 use Rattle.exact.specs.Fraction.{Fraction, ratio, negℚ, _-ℚ_, _≤ℚ_}
 use Rattle.exact.specs.Value.{value, Equal}
-use Rattle.exact.specs.Binary32.{bits, zero₃₂, one₃₂}
+use Rattle.exact.specs.Binary32.{zero₃₂, one₃₂}
 use Rattle.exact.proofs.Parts.{num⁺, num⁻}
 use Rattle.exact.proofs.Defined.{value-defined}
 use Rattle.exact.proofs.Order.{cross, ≤ℚ-refl, parts-equal, lt-at-most, compared, test-passes}
 use Rattle.lists.proofs.Every.{every, each}
+use Rattle.settings.specs.declared.SampledTurns.{SampledTurns}
+use Rattle.settings.specs.declared.SampledTurns.the-variants.{Six, Eight}
+use Rattle.settings.specs.Settings.{turnsNumber, sampledTurns}
 use Rattle.floor.proofs.Phase.{Phase, from-zero, walked}
 use Rattle.walk.specs.Formula.{stepOf, placeOf}
 
@@ -35,9 +38,10 @@ pub place-zero : placeOf 96 ≡ zero₃₂
 unfolding placeOf stepOf ofBits ofInt neg add mul div
 place-zero = refl
 
-pub place-end : placeOf 672 ≡ bits 0x40c0_0000
+pub place-turns : (n : SampledTurns) → placeOf (96 + 96 * turnsNumber n) ≡ sampledTurns n
 unfolding placeOf stepOf ofBits ofInt neg add mul div
-place-end = refl
+place-turns Six = refl
+place-turns Eight = refl
 
 -- ---- each is a number, above the one before, by at most 1/85
 near : Fraction → Fraction → Bool
@@ -49,29 +53,29 @@ ordered p q = lt p q && near (value p) (value q)
 unfoldable steady : ℕ → Bool
 steady k = finite (placeOf k) && ordered (placeOf k) (placeOf (suc k))
 
-steady-all : T (every steady 672)
+steady-all : T (every steady 864)
 unfolding every steady ordered near value placeOf stepOf ofBits ofInt neg add mul div lt
 steady-all = tt
 
-pub place-finite : (k : ℕ) → k ≤ 672 → T (finite (placeOf k))
+pub place-finite : (k : ℕ) → k ≤ 864 → T (finite (placeOf k))
 unfolding steady
 place-finite k h =
     elim (eq-or-lt-of-le h) [
       | inl e ↦
-          subst (λ (j : ℕ). T (finite (placeOf j))) (sym e) (subst (λ (x : Float). T (finite x)) (sym place-end) (unfold ofBits in tt))
+          subst (λ (j : ℕ). T (finite (placeOf j))) (sym e) (subst (λ (x : Float). T (finite x)) (sym (place-turns Eight)) (unfold ofBits in tt))
       | inr l ↦
-          and-l (finite (placeOf k)) (ordered (placeOf k) (placeOf (suc k))) (each steady 672 k steady-all l)
+          and-l (finite (placeOf k)) (ordered (placeOf k) (placeOf (suc k))) (each steady 864 k steady-all l)
     ]
 
-next-ordered : (k : ℕ) → k < 672 → T (ordered (placeOf k) (placeOf (suc k)))
+next-ordered : (k : ℕ) → k < 864 → T (ordered (placeOf k) (placeOf (suc k)))
 unfolding steady
-next-ordered k l = and-r (finite (placeOf k)) (ordered (placeOf k) (placeOf (suc k))) (each steady 672 k steady-all l)
+next-ordered k l = and-r (finite (placeOf k)) (ordered (placeOf k) (placeOf (suc k))) (each steady 864 k steady-all l)
 
-next-above : (k : ℕ) → k < 672 → T (lt (placeOf k) (placeOf (suc k)))
+next-above : (k : ℕ) → k < 864 → T (lt (placeOf k) (placeOf (suc k)))
 unfolding ordered
 next-above k l = and-l (lt (placeOf k) (placeOf (suc k))) (near (value (placeOf k)) (value (placeOf (suc k)))) (next-ordered k l)
 
-pub next-near : (k : ℕ) → k < 672 → value (placeOf (suc k)) -ℚ value (placeOf k) ≤ℚ ratio 1 85
+pub next-near : (k : ℕ) → k < 864 → value (placeOf (suc k)) -ℚ value (placeOf k) ≤ℚ ratio 1 85
 unfolding ordered near
 next-near k l = leZ-yes (and-r (lt (placeOf k) (placeOf (suc k))) (near (value (placeOf k)) (value (placeOf (suc k)))) (next-ordered k l))
 
@@ -85,7 +89,7 @@ lt-chain x y z X Y Z h k =
     core : (P N D Q M E R O F : ℕ) → 0 < D → 0 < E → 0 < F → P * E + M * D < Q * D + N * E → Q * F + O * E < R * E + M * F → P * F + O * D < R * D + N * F
     core P N D Q M E R O F d e f h k = lt-of-mul-lt-mul-right E (omega (arith, mul-lt-mul-of-pos-right h f, mul-lt-mul-of-pos-right k d))
 
-pub increasing : (j k : ℕ) → j < k → k ≤ 672 → T (lt (placeOf j) (placeOf k))
+pub increasing : (j k : ℕ) → j < k → k ≤ 864 → T (lt (placeOf j) (placeOf k))
 increasing j zero h l = absurd (not-suc-le-zero h)
 increasing j (suc k) h l =
     elim (eq-or-lt-of-le (le-of-suc-le-suc h)) [
@@ -110,13 +114,13 @@ same-equal a b t =
 half-met : ℕ → Bool
 half-met j = same (value (placeOf (48 * j))) (ratio j 2 -ℚ ratio 1 1)
 
-half-met-all : T (every half-met 15)
+half-met-all : T (every half-met 19)
 unfolding every half-met same value placeOf stepOf ofBits ofInt neg add mul div
 half-met-all = tt
 
-pub place-half : (j : ℕ) → j ≤ 14 → Equal (value (placeOf (48 * j))) (ratio j 2 -ℚ ratio 1 1)
+pub place-half : (j : ℕ) → j ≤ 18 → Equal (value (placeOf (48 * j))) (ratio j 2 -ℚ ratio 1 1)
 unfolding half-met
-place-half j h = same-equal (value (placeOf (48 * j))) (ratio j 2 -ℚ ratio 1 1) (each half-met 15 j half-met-all (omega arith))
+place-half j h = same-equal (value (placeOf (48 * j))) (ratio j 2 -ℚ ratio 1 1) (each half-met 19 j half-met-all (omega arith))
 
 -- ---- below 0: how many times 2 ^ -24 it is
 multiple : Fraction → ℕ
@@ -140,7 +144,7 @@ below-zero k h =
     (same-equal a (negℚ (ratio m (2 ^ 24))) (and-r (leb m (2 ^ 24)) (same a (negℚ (ratio m (2 ^ 24)))) u))
 
 -- ---- where they lie
-pub at-most-later : (j k : ℕ) → j ≤ k → k ≤ 672 → value (placeOf j) ≤ℚ value (placeOf k)
+pub at-most-later : (j k : ℕ) → j ≤ k → k ≤ 864 → value (placeOf j) ≤ℚ value (placeOf k)
 at-most-later j k h l =
     elim (eq-or-lt-of-le h) [
       | inl e ↦
@@ -152,12 +156,12 @@ at-most-later j k h l =
 pub place-below-zero : (k : ℕ) → k < 96 → T (lt (placeOf k) zero₃₂)
 place-below-zero k h = subst (λ (x : Float). T (lt (placeOf k) x)) place-zero (increasing k 96 h (lit≤ tt))
 
-pub place-above-zero : (k : ℕ) → 96 ≤ k → k ≤ 672 → ratio 0 1 ≤ℚ value (placeOf k)
+pub place-above-zero : (k : ℕ) → 96 ≤ k → k ≤ 864 → ratio 0 1 ≤ℚ value (placeOf k)
 unfolding value ofBits
 place-above-zero k h l = subst (λ (x : Float). value x ≤ℚ value (placeOf k)) place-zero (at-most-later 96 k h l)
 
 -- `fract` is exact on every one
-pub place-phase : (k : ℕ) → k ≤ 672 → Phase (placeOf k)
+pub place-phase : (k : ℕ) → k ≤ 864 → Phase (placeOf k)
 place-phase k l = go (leb 96 k) (leb→le 96 k) (nleb→lt 96 k)
   where
     go : (b : Bool) → (T b → 96 ≤ k) → (T (not b) → k < 96) → Phase (placeOf k)

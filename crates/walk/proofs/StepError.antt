@@ -145,9 +145,9 @@ pub record Walked (l : Float) (L : Fraction) (e : ℕ) : Type 0 where
   pub near : Within (value l) L (ratio e (2 ^ 29))
   pub inside : InRange L
 
--- the largest distance of a walk, 2 ^ -12; that of its targets; and what a step adds
+-- the largest distance of a walk, after 864 steps; that of its targets; and what a step adds
 abbrev pub largest : ℕ
-largest = 131072
+largest = 141152
 
 abbrev pub targetError : ℕ
 targetError = 1184

@@ -1,8 +1,8 @@
--- THE STEPS OF A WALK are the first count from 1 up whose position is not below the phase, 96 to 672 of them, at every phase from 0 to 6. Assumes nothing.
+-- THE STEPS OF A WALK are the first count from 1 up whose position is not below the phase, from 96 to 96 more for each turn, at every phase of the turns. Assumes nothing.
 use mathlib.Core.Path.{_≡_, refl, sym, subst, _∙_}
 use mathlib.Core.Logic.{inl, inr}
 use mathlib.Core.Bool.{Bool, true, false, not, cond}
-use Prim.Native.Nat.{ℕ, zero, suc, _+_, _≤_, _<_}
+use Prim.Native.Nat.{ℕ, zero, suc, _+_, _*_, _≤_, _<_}
 use native.Mathlib.Nat.{eq-or-lt-of-le, not-le-of-lt, le-of-suc-le-suc}
 use native.Mathlib.Omega.{arith}
 use lib.Dec.{T, lit<, lit≤, leb, leb→le, nleb→lt}
@@ -11,13 +11,16 @@ use lib.Ieee.Bits.{is-true}
 use lib.Ieee.Scale.{finite}
 use Rattle.exact.specs.Fraction.{ratio, _≤ℚ_}
 use Rattle.exact.specs.Value.{value}
-use Rattle.exact.specs.Binary32.{bits, zero₃₂}
+use Rattle.exact.specs.Binary32.{zero₃₂}
 use Rattle.exact.proofs.Defined.{value-defined}
 use Rattle.exact.proofs.Order.{cross, ≤ℚ-parts, ≤ℚ-refl, ≤ℚ-trans, le-value, nlt-at-most, compared}
+use Rattle.settings.specs.declared.SampledTurns.{SampledTurns}
+use Rattle.settings.specs.declared.SampledTurns.the-variants.{Six, Eight}
+use Rattle.settings.specs.Settings.{turnsNumber, sampledTurns}
 use Rattle.lfo_shapes.proofs.DrawnPhase.{Spanned}
 use Rattle.walk.specs.Formula.{placeOf, fullFrom, fullSteps}
 use Rattle.walk.specs.Steps.{Steps}
-use Rattle.walk.proofs.Places.{place-fits, place-finite, place-end, increasing, at-most-later, place-below-zero, place-above-zero}
+use Rattle.walk.proofs.Places.{place-fits, place-finite, place-turns, increasing, at-most-later, place-below-zero, place-above-zero}
 
 -- ---- the search from count k + 1 on finds the first that reaches the phase, where some count m does
 record Found (phase : Float) (k m r : ℕ) : Type 0 where
@@ -68,8 +71,8 @@ both : (b : Bool) → T b → T (not b) → ⊥
 both true t f = f
 both false t f = t
 
--- ---- a position that reaches a phase from 0 to 6 is not below 0, and the last one reaches it
-unreached : (phase : Float) (k : ℕ) → Spanned phase → k < 96 → le phase (placeOf k) ≡ false
+-- ---- a position that reaches a phase of the turns is not below 0, and the last one reaches it
+unreached : {t : SampledTurns} (phase : Float) (k : ℕ) → Spanned t phase → k < 96 → le phase (placeOf k) ≡ false
 unfolding value ofBits
 unreached phase k p l = go (le phase (placeOf k)) (le-value phase (placeOf k) (p .number) K .0)
   where
@@ -82,17 +85,30 @@ unreached phase k p l = go (le phase (placeOf k)) (le-value phase (placeOf k) (p
         let z = ≤ℚ-trans (ratio 0 1) (value phase) (value (placeOf k)) (value-defined phase .1 (p .number)) (p .from) (h tt) in
         absurd (both (lt (placeOf k) zero₃₂) (place-below-zero k l) (le-nlt zero₃₂ (placeOf k) tt K (le-value zero₃₂ (placeOf k) tt K .1 z)))
 
-end-reaches : (phase : Float) → Spanned phase → T (le phase (placeOf 672))
-unfolding value ofBits
-end-reaches phase p = subst (λ (x : Float). T (le phase x)) (sym place-end) (le-value phase (bits 0x40c0_0000) (p .number) tt .1 (p .to))
+-- the most steps of n turns
+abbrev mostSteps : SampledTurns → ℕ
+mostSteps t = 96 + 96 * turnsNumber t
 
--- ---- THE STEPS at a phase from 0 to 6. The search may begin at any count up to 96, and has to go as far as 672.
-search-steps : (phase : Float) (n k : ℕ) → k < 96 → 671 ≤ n + k → Spanned phase → Steps phase (suc (fullFrom phase n k))
-search-steps phase n k s e p =
+end-reaches : (t : SampledTurns) (phase : Float) → Spanned t phase → T (le phase (placeOf (mostSteps t)))
+unfolding value ofBits
+end-reaches t phase p = subst (λ (x : Float). T (le phase x)) (sym (place-turns t)) (within t (p .to))
+  where
+    within : (t : SampledTurns) → value phase ≤ℚ ratio (turnsNumber t) 1 → T (le phase (sampledTurns t))
+    within Six h = le-value phase (sampledTurns Six) (p .number) tt .1 h
+    within Eight h = le-value phase (sampledTurns Eight) (p .number) tt .1 h
+
+-- of which none is past the places
+not-past : (t : SampledTurns) → mostSteps t ≤ 864
+not-past Six = lit≤ tt
+not-past Eight = lit≤ tt
+
+-- ---- THE STEPS at a phase of the turns. The search may begin at any count up to 96, and has to go as far as 864.
+search-steps : (t : SampledTurns) (phase : Float) (n k : ℕ) → k < 96 → 863 ≤ n + k → Spanned t phase → Steps (turnsNumber t) phase (suc (fullFrom phase n k))
+search-steps t phase n k s e p =
     record {
       some = one r;
-      reached = le-nlt phase (placeOf (suc r)) (p .number) (place-finite (suc r) (f .before)) (subst T (sym (f .reaches)) tt);
-      first = λ j a b. nle-lt phase (placeOf j) (p .number) (place-finite j (inside j r b (f .before))) (go j b (leb (suc k) j) (leb→le (suc k) j) (nleb→lt (suc k) j));
+      reached = le-nlt phase (placeOf (suc r)) (p .number) (place-finite (suc r) few) (subst T (sym (f .reaches)) tt);
+      first = λ j a b. nle-lt phase (placeOf j) (p .number) (place-finite j (inside j r b few)) (go j b (leb (suc k) j) (leb→le (suc k) j) (nleb→lt (suc k) j));
       least = least (leb 96 (suc r)) (leb→le 96 (suc r)) (nleb→lt 96 (suc r));
       most = f .before;
     }
@@ -100,13 +116,16 @@ search-steps phase n k s e p =
     r : ℕ
     r = fullFrom phase n k
 
-    f : Found phase k 672 r
-    f = found phase n k 672 (omega arith) (omega arith) (is-true (le phase (placeOf 672)) (end-reaches phase p))
+    f : Found phase k (mostSteps t) r
+    f = found phase n k (mostSteps t) (omega arith) (omega (arith, not-past t)) (is-true (le phase (placeOf (mostSteps t))) (end-reaches t phase p))
+
+    few : r < 864
+    few = omega (arith, not-past t, f .before)
 
     one : (r : ℕ) → 1 ≤ suc r
     one r = omega arith
 
-    inside : (j r : ℕ) → j < suc r → r < 672 → j ≤ 672
+    inside : (j r : ℕ) → j < suc r → r < 864 → j ≤ 864
     inside j r a b = omega arith
 
     go : (j : ℕ) → j < suc r → (b : Bool) → (T b → k < j) → (T (not b) → j < suc k) → le phase (placeOf j) ≡ false
@@ -117,29 +136,29 @@ search-steps phase n k s e p =
     least true h i = h tt
     least false h i = absurd (subst T (sym (f .reaches) ∙ unreached phase (suc r) p (i tt)) tt)
 
-pub steps-at : (phase : Float) → Spanned phase → Steps phase (suc (fullSteps phase))
+pub steps-at : (t : SampledTurns) (phase : Float) → Spanned t phase → Steps (turnsNumber t) phase (suc (fullSteps phase))
 unfolding fullSteps
-steps-at phase p = search-steps phase _ _ (lit< tt) (lit≤ tt) p
+steps-at t phase p = search-steps t phase _ _ (lit< tt) (lit≤ tt) p
 
 -- ---- THE STEPS TO A PLACE from 0 on are its own count
-place-spanned : (j : ℕ) → 96 ≤ j → j ≤ 672 → Spanned (placeOf j)
+place-spanned : (j : ℕ) → 96 ≤ j → j ≤ 864 → Spanned Eight (placeOf j)
 unfolding value ofBits
 place-spanned j h l =
     record {
       holds = place-fits j;
       number = place-finite j l;
       from = place-above-zero j h l;
-      to = subst (λ (x : Float). value (placeOf j) ≤ℚ value x) place-end (at-most-later j 672 l (lit≤ tt));
+      to = subst (λ (x : Float). value (placeOf j) ≤ℚ value x) (place-turns Eight) (at-most-later j 864 l (lit≤ tt));
     }
 
-pub steps-to-place : (j : ℕ) → 96 ≤ j → j ≤ 672 → suc (fullSteps (placeOf j)) ≡ j
+pub steps-to-place : (j : ℕ) → 96 ≤ j → j ≤ 864 → suc (fullSteps (placeOf j)) ≡ j
 steps-to-place j h l = go (leb j k) (leb→le j k) (nleb→lt j k)
   where
     k : ℕ
     k = suc (fullSteps (placeOf j))
 
-    s : Steps (placeOf j) k
-    s = steps-at (placeOf j) (place-spanned j h l)
+    s : Steps 8 (placeOf j) k
+    s = steps-at Eight (placeOf j) (place-spanned j h l)
 
     J : T (finite (placeOf j))
     J = place-finite j l

@@ -1,6 +1,6 @@
 -- `height_at` is the height of `shapeOf`, an arm for each kind of code. Assumes nothing.
 use Rattle.code_shapes.specs.Shapes.{shapeOf}
-use Rattle.generator.specs.Heights.{heightOf}
+use Rattle.shape_heights.specs.Heights.{heightOf}
 use borrow.Author.Needs.{needs}
 use Rattle.code_heights.proofs.height_at.Statement.{statement}
 use Rattle.code_heights.proofs.height_at.Tie as tie

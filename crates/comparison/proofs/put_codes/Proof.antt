@@ -11,10 +11,10 @@ use Rattle.comparison.proofs.put_codes.Statement.{statement}
 use Rattle.comparison.proofs.put_codes.Tie as tie
 
 abbrev Inv-loop : tie.InvT-loop
-Inv-loop out₀ at old new next₀ number₀ out next number = (number ≤ 14) × (length out ≡ length out₀) × Puts out₀ at (codesText number (byteAt old) (byteAt new)) out next
+Inv-loop out₀ at sampled old new next₀ number₀ out next number = (number ≤ 14) × (length out ≡ length out₀) × Puts out₀ at (codesText sampled number (byteAt old) (byteAt new)) out next
 
 abbrev μ-loop : tie.MeasureT-loop
-μ-loop out₀ at old new next₀ number₀ out next number = 14 - number
+μ-loop out₀ at sampled old new next₀ number₀ out next number = 14 - number
 
 loop-holds : tie.Need-loop-holds Inv-loop μ-loop
 loop-holds c = (search needs, search needs, no-text _)

@@ -6,7 +6,7 @@ use Rattle.curve.specs.declared.Height.{Height}
 use Rattle.curve.specs.Curve.{drawnOf}
 use Rattle.envelope.specs.Formula.{envelopeHeightOf}
 use Rattle.generator.specs.declared.Shape.the-variants.{Envelope as AnEnvelope}
-use Rattle.generator.specs.Heights.{heightOf}
+use Rattle.shape_heights.specs.Heights.{heightOf}
 use Rattle.strip.proofs.Filling.{Filled, filled-none, filled-next, stepless, filled-whole}
 use Rattle.envelope_strip.proofs.fill_envelope.Statement.{statement}
 use Rattle.envelope_strip.proofs.fill_envelope.Tie as tie

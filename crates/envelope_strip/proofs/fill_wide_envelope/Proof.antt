@@ -5,7 +5,7 @@ use borrow.Author.Needs.{needs}
 use Rattle.curve.specs.Curve.{drawnOf}
 use Rattle.envelope.specs.Formula.{envelopeHeightOf}
 use Rattle.generator.specs.declared.Shape.the-variants.{Envelope as AnEnvelope}
-use Rattle.generator.specs.Heights.{heightOf}
+use Rattle.shape_heights.specs.Heights.{heightOf}
 use Rattle.strip.proofs.Filling.{Filled, filled-none, filled-next, stepless, filled-whole}
 use Rattle.envelope_strip.proofs.fill_wide_envelope.Statement.{statement}
 use Rattle.envelope_strip.proofs.fill_wide_envelope.Tie as tie

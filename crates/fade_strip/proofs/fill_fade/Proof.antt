@@ -5,7 +5,7 @@ use borrow.Author.Needs.{needs}
 use Rattle.curve.specs.Curve.{drawnOf}
 use Rattle.fade.specs.Formula.{fadeHeightOf}
 use Rattle.generator.specs.declared.Shape.the-variants.{Fade as AFade}
-use Rattle.generator.specs.Heights.{heightOf}
+use Rattle.shape_heights.specs.Heights.{heightOf}
 use Rattle.strip.proofs.Filling.{Filled, filled-none, filled-next, stepless, filled-whole}
 use Rattle.fade_strip.proofs.fill_fade.Statement.{statement}
 use Rattle.fade_strip.proofs.fill_fade.Tie as tie

@@ -10,7 +10,7 @@ use Rattle.mark_numbers.proofs.copy_mark_positions.Statement.{statement
 use Rattle.mark_numbers.proofs.copy_mark_positions.Tie as tie
 
 abbrev Inv-loop : tie.InvT-loop
-Inv-loop out₀ marks count i₀ out i = (i ≤ count) × (count ≤ 6) × (count ≡ marksUsed marks) × (out ≡ written (markPosition marks) i out₀)
+Inv-loop out₀ marks count i₀ out i = (i ≤ count) × (count ≤ 8) × (count ≡ marksUsed marks) × (out ≡ written (markPosition marks) i out₀)
 
 abbrev μ-loop : tie.MeasureT-loop
 μ-loop out₀ marks count i₀ out i = count - i

@@ -12,10 +12,10 @@ use Rattle.page_panels.proofs.put_panels.Statement.{statement}
 use Rattle.page_panels.proofs.put_panels.Tie as tie
 
 abbrev Inv-loop : tie.InvT-loop
-Inv-loop out₀ at older block next₀ k₀ out next k = (k ≤ 14) × (length out ≡ length out₀) × Puts out₀ at (panelsText older block k) out next
+Inv-loop out₀ at sampled older block next₀ k₀ out next k = (k ≤ 14) × (length out ≡ length out₀) × Puts out₀ at (panelsText sampled older block k) out next
 
 abbrev μ-loop : tie.MeasureT-loop
-μ-loop out₀ at older block next₀ k₀ out next k = 14 - k
+μ-loop out₀ at sampled older block next₀ k₀ out next k = 14 - k
 
 loop-holds : tie.Need-loop-holds Inv-loop μ-loop
 unfolding panelsText

@@ -8,7 +8,7 @@ use Rattle.panel_curves.proofs.put_older.Tie as tie
 
 returns : tie.Need-returns
 unfolding olderText
-returns c = simp blank-filled (rw (c .before .before .before .before .before .before .before .before .before .before .strip-once-at .ensures .1, c .before .before .before .before .before .before .before .strip-once-at2 .ensures .1) at (c .before .before .put-older-curve .ensures))
+returns c = simp blank-filled (rw (c .before .before .before .before .before .before .before .before .before .before .fill-once .ensures .1, c .before .before .before .before .before .before .before .fill-once2 .ensures .1) at (c .before .before .put-older-curve .ensures))
 
 pub put-older-spec : {M : Type 1} → statement M
 put-older-spec = tie.close

@@ -12,7 +12,7 @@ use Rattle.panel_marks.proofs.put_marks.Statement.{statement}
 use Rattle.panel_marks.proofs.put_marks.Tie as tie
 
 abbrev Inv-loop : tie.InvT-loop
-Inv-loop out₀ at marks count next₀ i₀ out next i = (i ≤ count) × (count ≤ 6) × (length out ≡ length out₀) × Puts out₀ at (rulesText marks i) out next
+Inv-loop out₀ at marks count next₀ i₀ out next i = (i ≤ count) × (count ≤ 8) × (length out ≡ length out₀) × Puts out₀ at (rulesText marks i) out next
 
 abbrev μ-loop : tie.MeasureT-loop
 μ-loop out₀ at marks count next₀ i₀ out next i = count - i
@@ -27,7 +27,7 @@ loop-again c = (search needs, search needs, search needs, rw add-one (rw (c .bef
 
 returns : tie.Need-returns Inv-loop μ-loop
 unfolding marksText
-returns c = let e : c .before .loop .i ≡ min (c .before .before .before .before .args .t3 .count) 6 = omega (arith, c .before .before .at-most .ensures .0) in rw e at (c .before .loop .inv .3)
+returns c = let e : c .before .loop .i ≡ min (c .before .before .before .before .args .t3 .count) 8 = omega (arith, c .before .before .at-most .ensures .0) in rw e at (c .before .loop .inv .3)
 
 pub put-marks-spec : {M : Type 1} → statement M
 put-marks-spec =

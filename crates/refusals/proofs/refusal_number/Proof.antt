@@ -6,4 +6,4 @@ use Rattle.refusals.proofs.refusal_number.Tie as tie
 pub refusal-number-spec : {M : Type 1} → statement M
 refusal-number-spec = tie.close (tie.spec
     (λ c. search needs) (λ c. search needs) (λ c. search needs) (λ c. search needs) (λ c. search needs)
-    (λ c. search needs) (λ c. search needs) (λ c. search needs))
+    (λ c. search needs) (λ c. search needs) (λ c. search needs) (λ c. search needs) (λ c. search needs))

@@ -5,7 +5,7 @@ use borrow.Author.Needs.{needs}
 use Rattle.curve.specs.Curve.{drawnOf}
 use Rattle.filter.specs.Formula.{filterHeightOf}
 use Rattle.generator.specs.declared.Shape.the-variants.{Filter as AFilter}
-use Rattle.generator.specs.Heights.{heightOf}
+use Rattle.shape_heights.specs.Heights.{heightOf}
 use Rattle.strip.proofs.Filling.{Filled, filled-none, filled-next, stepless, filled-whole}
 use Rattle.tone_strip.proofs.fill_filter.Statement.{statement}
 use Rattle.tone_strip.proofs.fill_filter.Tie as tie

@@ -5,7 +5,7 @@ use borrow.Author.Needs.{needs}
 use Rattle.curve.specs.Curve.{drawnOf}
 use Rattle.oscillator.specs.Formula.{oscillatorHeightOf}
 use Rattle.generator.specs.declared.Shape.the-variants.{Oscillator as AnOscillator}
-use Rattle.generator.specs.Heights.{heightOf}
+use Rattle.shape_heights.specs.Heights.{heightOf}
 use Rattle.strip.proofs.Filling.{Filled, filled-none, filled-next, stepless, filled-whole}
 use Rattle.tone_strip.proofs.fill_oscillator.Statement.{statement}
 use Rattle.tone_strip.proofs.fill_oscillator.Tie as tie

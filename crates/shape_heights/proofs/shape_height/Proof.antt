@@ -1,12 +1,12 @@
--- `at` is `heightOf` of the shape. Assumes nothing.
+-- `shape_height` is `heightOf`, an arm for each family. Assumes nothing.
 use borrow.Author.Needs.{needs}
-use Rattle.generator.specs.Heights.{heightOf}
-use Rattle.generator.proofs.Generator.at.Statement.{statement}
-use Rattle.generator.proofs.Generator.at.Tie as tie
+use Rattle.shape_heights.specs.Heights.{heightOf}
+use Rattle.shape_heights.proofs.shape_height.Statement.{statement}
+use Rattle.shape_heights.proofs.shape_height.Tie as tie
 
-pub at-spec : {M : Type 1} → statement M
+pub shape-height-spec : {M : Type 1} → statement M
 unfolding heightOf
-at-spec = tie.close (tie.spec (λ c. search needs) (λ c κs. search needs) (λ c. search needs) (λ c κs. search needs)
+shape-height-spec = tie.close (tie.spec (λ c. search needs) (λ c κs. search needs) (λ c. search needs) (λ c κs. search needs)
     (λ c. search needs) (λ c κs. search needs) (λ c. search needs) (λ c κs. search needs) (λ c. search needs)
     (λ c κs. search needs) (λ c. search needs) (λ c κs. search needs)
     (λ c. simp (c .before .before .shape .given .1, c .envelope-height .ensures))

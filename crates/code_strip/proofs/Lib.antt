@@ -1,2 +1,0 @@
--- The shapes of codes go forward.
-pub mod Forward

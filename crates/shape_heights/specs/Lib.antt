@@ -1,0 +1,2 @@
+-- The heights of shapes.
+pub mod Heights

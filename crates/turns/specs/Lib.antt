@@ -1,0 +1,2 @@
+-- Numbers of turns, and shapes at them.
+pub mod Turns
