@@ -48,6 +48,17 @@ fn slews(work: &mut Work, code: usize, shape: u8) {
     }
 }
 
+/// Every code of random blocks.
+fn blocks(work: &mut Work) {
+    for _ in 0..50 {
+        let program = drawn_block(&mut work.random);
+        for code in 0..14 {
+            let n = drawn_length(&mut work.random);
+            at_turns(work, code, &program, n);
+        }
+    }
+}
+
 /// Strips of telling lengths.
 fn lengths(work: &mut Work, code: usize, program: &Program) {
     for n in LENGTHS {
@@ -131,16 +142,6 @@ pub fn jobs() -> Vec<Job> {
             lengths(work, code, &program);
         }));
     }
-    for _ in 0..20 {
-        all.push(Box::new(|work| {
-            for _ in 0..50 {
-                let program = drawn_block(&mut work.random);
-                for code in 0..14 {
-                    let n = drawn_length(&mut work.random);
-                    at_turns(work, code, &program, n);
-                }
-            }
-        }));
-    }
+    all.extend((0..20).map(|_| Box::new(blocks) as Job));
     all
 }

@@ -5,7 +5,7 @@ use Prim.Native.Nat.{ℕ, _<_}
 use native.Mathlib.Nat.{suc-ne-zero}
 use lib.Ieee.{Float}
 use Rattle.refusals.specs.declared.Refusal.{Refusal}
-use Rattle.refusals.specs.declared.Refusal.the-variants.{Block, Code, Strip, Level}
+use Rattle.refusals.specs.declared.Refusal.the-variants.{Block, Code, Strip, Level, Turns}
 use Rattle.refusals.specs.Refusals.{accepted, refusalNumber, checkLevel}
 use Rattle.level.specs.Level.{isLevel}
 use Rattle.curve_finder.specs.declared.CurveAnswer.{CurveAnswer}
@@ -18,6 +18,7 @@ numbered Block e = suc-ne-zero 0 e
 numbered Code e = suc-ne-zero 1 e
 numbered Strip e = suc-ne-zero 2 e
 numbered Level e = suc-ne-zero 3 e
+numbered Turns e = suc-ne-zero 4 e
 
 checked : (w : Float) → isLevel w ≡ true → checkLevel (isLevel w) accepted ≡ accepted
 unfolding checkLevel
