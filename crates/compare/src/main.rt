@@ -43,11 +43,15 @@ fn print_differences(turns: u32, both: &[u8]) {
     print_first(&text, n);
 }
 
+// The argument as a number; 255, which is no number of turns, where it is a larger one or none.
+fn turns_argument() -> u32 {
+    let mut word = [0u8; 16];
+    let n = os::arg(1, &mut word);
+    read_at_most(&word[..n], 255) as u32
+}
+
 fn main() {
     let mut both = [0u8; 485];
     let got = io::read_full(STDIN_FILENO, &mut both);
-    let mut word = [0u8; 16];
-    let digits = os::arg(1, &mut word);
-    let turns = read_at_most(&word[..digits], 255) as u32;
-    print_differences(turns, &both[..got]);
+    print_differences(turns_argument(), &both[..got]);
 }

@@ -31,10 +31,15 @@ fn write_page(turns: u32, oldfile: &[u8], file: &[u8], blocks: &[u8], text: &mut
     page::page(turns, file, blocks, text)
 }
 
-fn main() {
+// The first argument as a number; 255, which is no number of turns, where it is a larger one or none.
+fn turns_argument() -> u32 {
     let mut word = [0u8; 16];
-    let digits = os::arg(1, &mut word);
-    let turns = read_at_most(&word[..digits], 255) as u32;
+    let n = os::arg(1, &mut word);
+    read_at_most(&word[..n], 255) as u32
+}
+
+fn main() {
+    let turns = turns_argument();
     let mut blocks = [0u8; 485];
     let n = io::read_full(STDIN_FILENO, &mut blocks);
     // a file's name has at most 255 bytes
