@@ -37,9 +37,9 @@ pub fn strip_turns(block: &[u8], code: u32, turns: u32, out: &mut [f32]) -> Stri
 pub fn strip_once_turns(block: &[u8], code: u32, turns: u32, out: &mut [f32]) -> StripAnswer
     ensures { λ r. ⌜ StripOnceTurnsAnswered (now (block .entry)) code turns (now (out .entry)) (now (out .exit)) r ⌝ }
 {
-    let chosen = choose_turns(block, code, turns);
-    match chosen {
+    let found = choose_turns(block, code, turns);
+    match found {
         Chosen::Generator(g) => block_strip_once::generator_strip(g, out),
-        Chosen::Refused(r) => StripAnswer::Refused(r),
+        Chosen::Refused(why) => StripAnswer::Refused(why),
     }
 }

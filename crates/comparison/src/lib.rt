@@ -193,13 +193,7 @@ fn put_counts(out: &mut [u8], at: usize, old: &[u8], new: &[u8]) -> usize
     put(out, next, b"\n")
 }
 
-fn put_programs(
-    out: &mut [u8],
-    at: usize,
-    sampled: SampledTurns,
-    old: &[u8],
-    new: &[u8],
-) -> usize
+fn put_programs(out: &mut [u8], at: usize, sampled: SampledTurns, old: &[u8], new: &[u8]) -> usize
     requires { ⌜ (length (now old) ≡ blockLength) × (length (now new) ≡ blockLength) ⌝ }
     ensures { λ r. ⌜ Puts (now (out .entry)) at (programsText sampled (now (old .entry)) (now (new .entry))) (now (out .exit)) r ⌝ }
 {
@@ -211,13 +205,7 @@ fn put_programs(
 }
 
 // The text of two blocks; where one has another length, or the turns are another number than 6 or 8, nothing.
-pub fn put_differences(
-    out: &mut [u8],
-    at: usize,
-    turns: u32,
-    old: &[u8],
-    new: &[u8],
-) -> usize
+pub fn put_differences(out: &mut [u8], at: usize, turns: u32, old: &[u8], new: &[u8]) -> usize
     ensures { λ r. ⌜ Puts (now (out .entry)) at (differencesText turns (now (old .entry)) (now (new .entry))) (now (out .exit)) r ⌝ }
 {
     if old.len() != BLOCK {

@@ -90,12 +90,5 @@ fn main() {
     let got = io::read_full(STDIN_FILENO, &mut block);
     let mut heights = samples();
     let mut captions = segments();
-    print_strip(
-        &block[..got],
-        code,
-        turns,
-        &mut heights,
-        &mut captions,
-        n,
-    );
+    print_strip(&block[..got], code, turns, &mut heights, &mut captions, n);
 }

@@ -148,14 +148,24 @@ pub extern "C" fn juvrada_height_turns(block: &[u8], code: u32, turns: u32, t: f
 }
 
 #[no_mangle]
-pub extern "C" fn juvrada_strip_turns(block: &[u8], code: u32, turns: u32, out: &mut [f32]) -> StripResult
+pub extern "C" fn juvrada_strip_turns(
+    block: &[u8],
+    code: u32,
+    turns: u32,
+    out: &mut [f32],
+) -> StripResult
     ensures { λ r. ⌜ Returned (λ a. r ≡ stripResult a) (StripTurnsAnswered (now (block .entry)) code turns (now (out .entry)) (now (out .exit))) ⌝ }
 {
     c_strip::strip_turns(block, code, turns, out)
 }
 
 #[no_mangle]
-pub extern "C" fn juvrada_strip_once_turns(block: &[u8], code: u32, turns: u32, out: &mut [f32]) -> StripResult
+pub extern "C" fn juvrada_strip_once_turns(
+    block: &[u8],
+    code: u32,
+    turns: u32,
+    out: &mut [f32],
+) -> StripResult
     ensures { λ r. ⌜ Returned (λ a. r ≡ stripResult a) (StripOnceTurnsAnswered (now (block .entry)) code turns (now (out .entry)) (now (out .exit))) ⌝ }
 {
     c_strip::strip_once_turns(block, code, turns, out)

@@ -56,7 +56,10 @@ fn main() {
         &mut text,
     );
     if end == 0 {
-        io::write_all(STDOUT_FILENO, b"a block has 242 bytes, and turns are 6 or 8\n");
+        io::write_all(
+            STDOUT_FILENO,
+            b"a block has 242 bytes, and turns are 6 or 8\n",
+        );
         return;
     }
     if end < 262144 {

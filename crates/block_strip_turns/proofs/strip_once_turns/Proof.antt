@@ -8,12 +8,12 @@ use Rattle.block_strip_turns.proofs.strip_once_turns.Statement.{stateme
 use Rattle.block_strip_turns.proofs.strip_once_turns.Tie as tie
 
 generator-strip-requires : tie.Need-generator-strip-requires
-generator-strip-requires c κs = turns-forward _ _ _ _ (sym (c .before .before .before .before .choose-turns .ensures) ∙ c .before .before .chosen .given .1)
+generator-strip-requires c κs = turns-forward _ _ _ _ (sym (c .before .before .before .before .choose-turns .ensures) ∙ c .before .before .found .given .1)
 
 returns : tie.Need-returns
 returns c =
     let start = c .before .before .before .before .before .before .before in
-    let chosen = sym (start .choose-turns .ensures) ∙ c .before .before .before .before .before .chosen .given .1 in
+    let chosen = sym (start .choose-turns .ensures) ∙ c .before .before .before .before .before .found .given .1 in
     let filled = c .before .before .generator-strip .ensures in
     strip-once-turns-answered _ _ _ (λ n. start .before .before .shared-slice-known .given n .fits) _ _ (simp chosen (filled .0)) (simp chosen (filled .1))
 
@@ -21,7 +21,7 @@ returns-2 : tie.Need-returns-2
 unfolding stripOnceAnswer stripAfter
 returns-2 c =
     let start = c .before .before .before in
-    let chosen = sym (start .choose-turns .ensures) ∙ c .before .chosen2 .given .1 in
+    let chosen = sym (start .choose-turns .ensures) ∙ c .before .found2 .given .1 in
     strip-once-turns-answered _ _ _ (λ n. start .before .before .shared-slice-known .given n .fits) _ _ (simp chosen) (simp chosen)
 
 pub strip-once-turns-spec : {M : Type 1} → statement M
