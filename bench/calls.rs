@@ -23,6 +23,10 @@ pub type Height = unsafe extern "C" fn(*const u8, usize, u32, f32) -> Answer;
 /// Block, its length, code, the samples and how many.
 pub type Strip = unsafe extern "C" fn(*const u8, usize, u32, *mut f32, usize) -> StripAnswer;
 
+/// The same with a number of turns behind the code.
+pub type HeightTurns = unsafe extern "C" fn(*const u8, usize, u32, u32, f32) -> Answer;
+pub type StripTurns = unsafe extern "C" fn(*const u8, usize, u32, u32, *mut f32, usize) -> StripAnswer;
+
 /// The taps' positions, their heights, how many are used, position.
 pub type TapsHeight = unsafe extern "C" fn(*const f32, *const f32, u32, f32) -> Answer;
 

@@ -14,7 +14,7 @@ use crate::answers::{READ, Taps, block};
 use crate::juvrada::{BLOCK, MAX_SETTINGS};
 use crate::random::Random;
 use crate::stand_in::Program;
-use calls::{Answer, Height, Settings, Steps, Strip, StripAnswer, TapsHeight};
+use calls::{Answer, Height, HeightTurns, Settings, Steps, Strip, StripAnswer, StripTurns, TapsHeight};
 use std::arch::asm;
 use std::ffi::CString;
 use std::hint::black_box;
@@ -78,11 +78,16 @@ pub const ONE_WALK: &str = ", one walk";
 /// What a row of settings has in its name beyond that of the curve.
 pub const SETTINGS: &str = ", settings";
 
-/// What fills a strip. Where an LFO is slewed, the plain engine walks to every sample from the start, the other along the strip once.
+/// What a row of the functions that take a number of turns has in its name beyond that of the plain engine.
+const TURNS: &str = ", at 6 turns";
+
+/// What fills a strip. Where an LFO is slewed, the plain engine walks to every sample from the start, the other along the strip once. The third is the plain one that is given its
+/// turns, as its heights are.
 #[derive(Clone, Copy, PartialEq)]
 enum Engine {
     Plain,
     OneWalk,
+    Turns,
 }
 
 impl Engine {
@@ -90,6 +95,7 @@ impl Engine {
         match self {
             Engine::Plain => "",
             Engine::OneWalk => ONE_WALK,
+            Engine::Turns => TURNS,
         }
     }
 }
@@ -100,12 +106,14 @@ struct Side {
     height: [Height; 14],
     strip: [Strip; 14],
     strip_once: [Strip; 14],
+    height_turns: [Height; 14],
+    strip_turns: [Strip; 14],
     settings: [Settings; ENVELOPES],
     taps_height: TapsHeight,
 }
 
 impl Side {
-    /// A side with one strip, which stands in for that of the one walk too.
+    /// A side with one height and one strip, which stand in for those of the other engines too.
     fn new(
         name: &'static str,
         height: [Height; 14],
@@ -118,6 +126,8 @@ impl Side {
             height,
             strip,
             strip_once: strip,
+            height_turns: height,
+            strip_turns: strip,
             settings,
             taps_height,
         }
@@ -127,6 +137,14 @@ impl Side {
         match engine {
             Engine::Plain => self.strip[code],
             Engine::OneWalk => self.strip_once[code],
+            Engine::Turns => self.strip_turns[code],
+        }
+    }
+
+    fn height(&self, engine: Engine, code: usize) -> Height {
+        match engine {
+            Engine::Turns => self.height_turns[code],
+            _ => self.height[code],
         }
     }
 }
@@ -178,9 +196,21 @@ macro_rules! library {
     };
 }
 
+unsafe extern "C" fn height_at_six(block: *const u8, len: usize, code: u32, t: f32) -> Answer {
+    unsafe { function!(HeightTurns, "juvrada_height_turns")(block, len, code, 6, t) }
+}
+
+unsafe extern "C" fn strip_at_six(block: *const u8, len: usize, code: u32, out: *mut f32, n: usize) -> StripAnswer {
+    unsafe { function!(StripTurns, "juvrada_strip_turns")(block, len, code, 6, out, n) }
+}
+
 fn sides() -> Vec<Side> {
     vec![
-        library!("juvrada"),
+        Side {
+            height_turns: [height_at_six; 14],
+            strip_turns: [strip_at_six; 14],
+            ..library!("juvrada")
+        },
         #[cfg(before)]
         library!("before"),
         side!("called2"),
@@ -235,7 +265,7 @@ struct Data {
 
 #[derive(Clone, Copy)]
 enum Work {
-    Heights { code: usize },
+    Heights { engine: Engine, code: usize },
     Strip { engine: Engine, code: usize, n: usize },
     Settings { code: usize },
     Taps,
@@ -320,8 +350,8 @@ impl Work {
     fn perform(self, side: &Side, data: &mut Data, times: u32) {
         let out = &mut data.out[..self.written()];
         match self {
-            Work::Heights { code } => heights(
-                side.height[code],
+            Work::Heights { engine, code } => heights(
+                side.height(engine, code),
                 &data.program,
                 code as u32,
                 &data.positions,
@@ -387,8 +417,8 @@ fn figures(mut each: impl FnMut(&str, Work, &mut Data)) {
     let mut data = data();
     let mut row = |name: String, engine: Engine, code, data: &mut Data| {
         let name = name + engine.suffix();
-        if engine == Engine::Plain {
-            each(&name, Work::Heights { code }, data);
+        if engine != Engine::OneWalk {
+            each(&name, Work::Heights { engine, code }, data);
         }
         for n in LENGTHS {
             each(&name, Work::Strip { engine, code, n }, data);
@@ -397,8 +427,16 @@ fn figures(mut each: impl FnMut(&str, Work, &mut Data)) {
     for (code, name) in CODES.iter().enumerate() {
         row(format!("{code}: {name}"), Engine::Plain, code, &mut data);
     }
-    for (slew, engine) in [(0, Engine::Plain), (SLEW, Engine::Plain), (SLEW, Engine::OneWalk)] {
-        for (shape, name) in SHAPES.iter().enumerate() {
+    row(format!("0: {}", CODES[0]), Engine::Turns, 0, &mut data);
+    let runs = [
+        (0, Engine::Plain, 0),
+        (SLEW, Engine::Plain, 0),
+        (SLEW, Engine::OneWalk, 0),
+        (0, Engine::Turns, 5),
+        (SLEW, Engine::Turns, 5),
+    ];
+    for (slew, engine, from) in runs {
+        for (shape, name) in SHAPES.iter().enumerate().skip(from) {
             data.program.0[2] = shape as u8;
             data.program.0[6] = slew;
             row(format!("3: LFO 1, {name}, slew {slew}"), engine, 3, &mut data);
