@@ -5,7 +5,7 @@ use mathlib.Core.List.{List}
 use Prim.Native.Nat.{ℕ, _<_}
 use lib.Dec.{T}
 use lib.ListN.{length}
-use lib.Ieee.{Float, binary32, fits}
+use lib.Ieee.{Float}
 use lib.Ieee.Bits.{is-true}
 use Rattle.settings.specs.declared.SampledTurns.{SampledTurns}
 use Rattle.settings.specs.Settings.{turnsNumber}
@@ -27,7 +27,6 @@ use Rattle.codes.specs.Codes.{codeOf}
 use Rattle.code_bytes.specs.Bytes.{byteAt, blockLength}
 use Rattle.code_shapes.specs.Shapes.{shapeOf}
 use Rattle.code_heights.specs.Promises.{slewedCode, boundAt, Promised}
-use Rattle.code_heights.proofs.Promised.{slewed}
 use Rattle.code_heights.proofs.EveryCode.{code-slewed}
 use Rattle.code_heights.proofs.EveryTurns.{turns-height}
 use Rattle.block.specs.declared.Chosen.{Chosen}

@@ -10,7 +10,7 @@ use lib.Ieee.Bits.{is-false}
 use borrow.Author.Tests.{ne-eqb}
 use Rattle.exact.specs.Binary32.{zero₃₂}
 use Rattle.settings.specs.declared.SampledTurns.{SampledTurns}
-use Rattle.settings.specs.declared.SampledTurns.the-variants.{Six, Eight}
+use Rattle.settings.specs.declared.SampledTurns.the-variants.{Six}
 use Rattle.settings.specs.Settings.{byteOf, lfoOf, turnedLfo, turnsNumber}
 use Rattle.settings.proofs.Given.{fade-range, low-pass-range, high-pass-range, oscillator-one-range, oscillator-two-range, noise-range}
 use Rattle.envelope_settings.proofs.Given.{envelope-range}

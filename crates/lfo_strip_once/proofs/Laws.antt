@@ -1,6 +1,6 @@
 -- THE STEPS OF ONE WALK: none where no height takes steps, as the plain engine says. As numbers: the last sample lies at 1, so that its phase is the number of turns; 191 full steps fall short of 1 turn, 671 of 6, and 863 of 8. Assumes nothing.
 use mathlib.Core.Path.{_≡_, refl, sym, ap, _∙_}
-use mathlib.Core.Bool.{Bool, true, false}
+use mathlib.Core.Bool.{true, false}
 use Prim.Native.Nat.{ℕ, _+_, _-_, _≤_}
 use lib.Dec.{lit≤}
 use lib.Ieee.{Float, ofBits, ofInt, neg, add, mul, div, isNan, lt, le, eq}

@@ -1,9 +1,7 @@
 -- `read_at_most` is `numberAtMost` of what is read. Assumes nothing.
-use mathlib.Core.Path.{_≡_, sym}
-use Prim.Native.Nat.{ℕ, min, _≤_}
+use mathlib.Core.Path.{sym}
 use native.Mathlib.Omega.{arith}
 use borrow.Author.Needs.{needs}
-use Rattle.decimal_reading.specs.Reading.{numberAtMost}
 use Rattle.decimal_reading.proofs.read_at_most.Statement.{statement}
 use Rattle.decimal_reading.proofs.read_at_most.Tie as tie
 

@@ -1,6 +1,5 @@
 -- `cycle_row` is `cycleRow`: the fourth row, or the third and the fourth in turn. Assumes nothing.
 use borrow.Author.Tests.{le-leb, lt-leb}
-use native.Mathlib.Omega.{arith}
 use borrow.Author.Needs.{needs}
 use Rattle.panel_marks.specs.Marks.{cycleRow}
 use Rattle.panel_marks.proofs.cycle_row.Statement.{statement}
