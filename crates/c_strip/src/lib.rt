@@ -1,15 +1,14 @@
-// Strips for C callers: what crates block_strip, block_strip_once and block_strip_turns answer, as numbers.
+// Strips for C callers: what crates block_strip and block_strip_once answer, as numbers.
 ghost use mathlib.Core.Path.{_≡_};
 ghost use Rattle.block_strip.specs.Promises.{StripAnswered};
 ghost use Rattle.block_strip_once.specs.Promises.{StripOnceAnswered};
-ghost use Rattle.block_strip_turns.specs.Promises.{StripTurnsAnswered, StripOnceTurnsAnswered};
 ghost use Rattle.c_results.specs.Promises.{Returned};
 ghost use Rattle.c_strip.specs.Results.{stripResult};
 use block_strip::StripAnswer;
 use c_results::StripResult;
 use refusals::refusal_number;
 
-fn strip_result(answer: StripAnswer) -> StripResult
+pub fn strip_result(answer: StripAnswer) -> StripResult
     ensures { λ r. ⌜ r ≡ stripResult answer ⌝ }
 {
     match answer {
@@ -31,16 +30,4 @@ pub fn strip_once(block: &[u8], code: u32, out: &mut [f32]) -> StripResult
     ensures { λ r. ⌜ Returned (λ a. r ≡ stripResult a) (StripOnceAnswered (now (block .entry)) code (now (out .entry)) (now (out .exit))) ⌝ }
 {
     strip_result(block_strip_once::strip_once(block, code, out))
-}
-
-pub fn strip_turns(block: &[u8], code: u32, turns: u32, out: &mut [f32]) -> StripResult
-    ensures { λ r. ⌜ Returned (λ a. r ≡ stripResult a) (StripTurnsAnswered (now (block .entry)) code turns (now (out .entry)) (now (out .exit))) ⌝ }
-{
-    strip_result(block_strip_turns::strip_turns(block, code, turns, out))
-}
-
-pub fn strip_once_turns(block: &[u8], code: u32, turns: u32, out: &mut [f32]) -> StripResult
-    ensures { λ r. ⌜ Returned (λ a. r ≡ stripResult a) (StripOnceTurnsAnswered (now (block .entry)) code turns (now (out .entry)) (now (out .exit))) ⌝ }
-{
-    strip_result(block_strip_turns::strip_once_turns(block, code, turns, out))
 }

@@ -156,7 +156,7 @@ pub extern "C" fn juvrada_strip_turns(
 ) -> StripResult
     ensures { λ r. ⌜ Returned (λ a. r ≡ stripResult a) (StripTurnsAnswered (now (block .entry)) code turns (now (out .entry)) (now (out .exit))) ⌝ }
 {
-    c_strip::strip_turns(block, code, turns, out)
+    c_strip_turns::strip_turns(block, code, turns, out)
 }
 
 #[no_mangle]
@@ -168,7 +168,7 @@ pub extern "C" fn juvrada_strip_once_turns(
 ) -> StripResult
     ensures { λ r. ⌜ Returned (λ a. r ≡ stripResult a) (StripOnceTurnsAnswered (now (block .entry)) code turns (now (out .entry)) (now (out .exit))) ⌝ }
 {
-    c_strip::strip_once_turns(block, code, turns, out)
+    c_strip_turns::strip_once_turns(block, code, turns, out)
 }
 
 #[no_mangle]
