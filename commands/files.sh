@@ -59,16 +59,13 @@ deliver() {
     part=
 }
 
-# Makes a page of what was gathered, by its program. It has the name of the block's file, and of the old block's where there is one; without a block there is none. A sheet has
-# its turns.
-page() { # PROGRAM, BLOCK or '' [OLD]
+# Makes a page of what was gathered, by its program. It has the name of the block's file, and of the old block's where there is one; without a block there is none. A word
+# stands before the names.
+page() { # PROGRAM, BLOCK or '', OLD or '' [WORD]
     leaf "$2"
     new=$leaf
-    leaf "${3-}"
-    case $1 in
-    sheet) run sheet "$scratch/blocks" '</svg>' "$turns" "$new" "$leaf" ;;
-    *) run "$1" "$scratch/blocks" '</svg>' "$new" ;;
-    esac
+    leaf "$3"
+    run "$1" "$scratch/blocks" '</svg>' ${4:+"$4"} "$new" "$leaf"
 }
 
 # Sets `leaf` to the name of a block's file, without its folder.

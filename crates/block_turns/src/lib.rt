@@ -1,20 +1,11 @@
 // The generator that a block, a code and a number of turns choose, or the refusal; and its height.
 ghost use mathlib.Core.Path.{_≡_};
-ghost use lib.ListN.{length};
-ghost use Rattle.generator.specs.Generator.{generatorOf};
-ghost use Rattle.code_bytes.specs.Bytes.{byteAt, blockLength};
-ghost use Rattle.code_shapes.specs.Shapes.{shapeOf};
-ghost use Rattle.block.specs.Refusals.{heightAnswer};
 ghost use Rattle.block_turns.specs.Choice.{chosenAt, chosenTurns};
 ghost use Rattle.block_turns.specs.Promises.{HeightTurnsAnswered};
 use block::Chosen;
 use block::HeightAnswer;
-use block::Settled;
-use block::settle;
 use block_choice::choose;
 use builders::of_shape;
-use code_shapes::shape_at;
-use codes::Code;
 use generator::Generator;
 use refusals::Refusal;
 use shape_heights::shape_height;
@@ -46,25 +37,15 @@ pub fn choose_turns(block: &[u8], code: u32, turns: u32) -> Chosen
     }
 }
 
-// The height of a known code at a number of turns. No generator is made.
-fn known_height(block: &[u8], code: Code, read: TurnsRead, t: f32) -> HeightAnswer
-    requires { ⌜ length (now block) ≡ blockLength ⌝ }
-    ensures { λ r. ⌜ r ≡ heightAnswer (chosenAt (Chosen.Generator (generatorOf (shapeOf code (byteAt (now (block .entry)))))) read) t ⌝ }
-{
-    match read {
-        TurnsRead::Known(sampled) => {
-            HeightAnswer::Height(shape_height(turned(sampled, shape_at(block, code)), t))
-        }
-        TurnsRead::Other => HeightAnswer::Refused(Refusal::Turns),
-    }
-}
-
 pub fn height_turns(block: &[u8], code: u32, turns: u32, t: f32) -> HeightAnswer
     ensures { λ r. ⌜ HeightTurnsAnswered (now (block .entry)) code turns t r ⌝ }
 {
-    let settled = settle(block, code);
-    match settled {
-        Settled::Known(c) => known_height(block, c, turns_read(turns), t),
-        Settled::Refused(r) => HeightAnswer::Refused(r),
+    let chosen = choose_turns(block, code, turns);
+    match chosen {
+        Chosen::Generator(g) => {
+            let shape = g.shape;
+            HeightAnswer::Height(shape_height(shape, t))
+        }
+        Chosen::Refused(r) => HeightAnswer::Refused(r),
     }
 }
