@@ -1,4 +1,6 @@
 // The strip of an LFO by one walk along it: a full step is taken once for all samples that it falls short of, and only the cut step is each sample's own.
+#![tactic(auto)]
+
 ghost use Rattle.std.specs.Prelude.{◌≡◌, true, false, ◌≤◌, length};
 ghost use Rattle.std.specs.Float.Ieee.{le};
 ghost use Rattle.exact.specs.Binary32.{zero₃₂};

@@ -1,6 +1,5 @@
 -- `captions` answers `answer_of` and leaves `captions_of`. Assumes nothing.
 use mathlib.Core.Path.{sym, ◌∙◌}
-use borrow.Author.Tests.{not-true, not-false}
 use Rattle.strip.proofs.Lengths.{between}
 use Rattle.captions.proofs.Writing.{refused, accepted}
 use Rattle.captions.proofs.captions.Goals as goal
