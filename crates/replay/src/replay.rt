@@ -8,7 +8,7 @@ use replay_answers::{Answer, built, of_gates, of_generator, of_taps};
 use taps::{MAX_TAPS, Taps};
 
 // How many words of each kind were compared, how many of all differ, and how many the program could not answer.
-#[derive(Drop)]
+#[derive(Clone, Copy)]
 pub struct Tally {
     pub settings: u32,
     pub heights: u32,
@@ -23,7 +23,7 @@ pub struct Tally {
 }
 
 // What a number of the list is about.
-#[derive(Drop)]
+#[derive(Clone, Copy)]
 pub struct Place {
     // The generator's code and bytes, or the taps.
     pub code: u64,
@@ -40,7 +40,7 @@ pub struct Place {
     pub position: u64,
 }
 
-#[derive(Drop)]
+#[derive(Clone, Copy)]
 pub struct Reading {
     pub place: Place,
     pub tally: Tally,

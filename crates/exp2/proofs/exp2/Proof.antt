@@ -9,7 +9,7 @@ use Rattle.series.specs.Horner.{horner}
 use Rattle.math.specs.Formulas.{clamp_of}
 use Rattle.floor.specs.Formula.{floor_of, fract_of}
 use Rattle.exp2.specs.Formula.{exp2_coefficients, exp2_scale, exp2_within, exp2_of}
-use Rattle.math.proofs.Nan.{is_nan}
+use Rattle.math.proofs.Nan.{is_nan_tested}
 use Rattle.exp2.proofs.Scale.{Scales, least, most, clamped}
 use borrow.Author.Rules.{rules}
 use Rattle.exp2.proofs.exp2.Statement.{statement}
@@ -33,7 +33,7 @@ into c = c.clamp.ensures
 whole : (c : tie.After-floor) → Scales c.floor.result (exp2_scale c.before.before.clamp.result)
 whole c =
     let e = into c.before.before in
-    let n = is_nan false _ c.before.if1.false in
+    let n = is_nan_tested false _ c.before.if1.false in
     subst (λ (w : Float). Scales w (exp2_scale c.before.before.clamp.result)) (sym c.floor.ensures)
     (subst (λ (x : Float). Scales (floor_of x) (exp2_scale x)) (sym e) (clamped _ (subst (λ (x : Float). is_nan x ≡ false) e n)))
 
