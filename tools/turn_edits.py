@@ -12,7 +12,7 @@ the edit is named, to be mended by hand. An import is turned by its names: those
 take them. The notes of an edit keep their words, and what stands between backticks is turned by the dictionary.
 
 An edit that fits the sources of today as it stands, and whose new text the dictionary leaves alone, keeps its text.
-`--words` prints the dictionary of the repository's own names instead.
+`--words` prints the dictionary of the repository's own names instead; `--pages` turns the names between backticks in the pages.
 """
 import collections
 import difflib
@@ -366,6 +366,16 @@ def main():
     if words_only:
         for a, b in sorted(turner.own.items()):
             print(a, b)
+        return
+    if "--pages" in sys.argv:
+        for path in ["README.md", "CONTRIBUTING.md"] + sorted("docs/" + n for n in os.listdir("docs") if n.endswith(".md") and n != "PORT.md"):
+            with open(path, encoding="utf-8") as f:
+                text = f.read()
+            new = "\n".join(turner.notes(line) for line in text.split("\n"))
+            if new != text:
+                print(path)
+                with open(path, "w", encoding="utf-8") as f:
+                    f.write(new)
         return
     kept = turned = 0
     by_hand = {}
