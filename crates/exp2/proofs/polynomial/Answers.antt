@@ -2,9 +2,8 @@
 use mathlib.Core.Path.{refl}
 use Rattle.series.specs.Horner.{horner}
 use Rattle.exp2.specs.Formula.{exp2_coefficients}
-use Rattle.exp2.proofs.polynomial.Statement.{statement}
-use Rattle.exp2.proofs.polynomial.Tie as tie
+use Rattle.exp2.proofs.polynomial.Goals as goal
 
-pub polynomial_spec : {M : Type 1} → statement M
+pub returns : goal.returns
 unfolding horner exp2_coefficients
-polynomial_spec = tie.close (tie.spec (λ c. refl))
+returns c = refl
