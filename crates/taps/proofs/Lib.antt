@@ -4,7 +4,9 @@ pub mod Width
 pub mod Maximum
 pub mod Raised
 pub mod Ranges
+pub mod OneTap
 pub mod EveryTaps
+pub mod Spike
 pub mod TapsError
 pub mod Examples
 pub mod Held
