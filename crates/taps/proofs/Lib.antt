@@ -2,6 +2,8 @@
 pub mod UsedTaps
 pub mod Width
 pub mod Maximum
+pub mod Larger
+pub mod OneComparison
 pub mod Raised
 pub mod Ranges
 pub mod OneTap
