@@ -10,20 +10,20 @@ use generator::Generator;
 use refusals::Refusal;
 
 // What a block and a code's number come to.
-#[derive(Drop)]
+#[derive(Clone, Copy)]
 pub enum Settled {
     Known(Code),
     Refused(Refusal),
 }
 
 // The generator of what is settled: `choose` of crate block_choice.
-#[derive(Drop)]
+#[derive(Clone, Copy)]
 pub enum Chosen {
     Generator(Generator),
     Refused(Refusal),
 }
 
-#[derive(Drop)]
+#[derive(Clone, Copy)]
 pub enum HeightAnswer {
     Height(Height),
     Refused(Refusal),

@@ -7,7 +7,7 @@ use code_bytes::GATE_TIME;
 use gates::{Gates, arpeggiator_gates};
 use refusals::{Answer, Refusal};
 
-#[derive(Drop)]
+#[derive(Clone, Copy)]
 pub struct GatesAnswer {
     pub answer: Answer,
     pub gates: Gates,

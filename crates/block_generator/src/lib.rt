@@ -10,19 +10,19 @@ use block_turns::choose_turns;
 use generator::Scale;
 use refusals::Refusal;
 
-#[derive(Drop)]
+#[derive(Clone, Copy)]
 pub enum RestAnswer {
     Rest(f32),
     Refused(Refusal),
 }
 
-#[derive(Drop)]
+#[derive(Clone, Copy)]
 pub enum ScaleAnswer {
     Scale(Scale),
     Refused(Refusal),
 }
 
-#[derive(Drop)]
+#[derive(Clone, Copy)]
 pub enum AnchoredAnswer {
     Anchored(bool),
     Refused(Refusal),

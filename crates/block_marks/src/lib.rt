@@ -11,7 +11,7 @@ use marks::{Marks, no_marks};
 use refusals::{Answer, Refusal};
 
 // Marks are an array, so that the answer stands beside them.
-#[derive(Drop)]
+#[derive(Clone, Copy)]
 pub struct MarksAnswer {
     pub answer: Answer,
     pub marks: Marks,

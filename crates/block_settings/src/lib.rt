@@ -7,7 +7,7 @@ use block_choice::choose;
 use generator::Shape;
 use refusals::Refusal;
 
-#[derive(Drop)]
+#[derive(Clone, Copy)]
 pub enum SettingsAnswer {
     Settings(Shape),
     Refused(Refusal),

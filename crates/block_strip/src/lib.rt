@@ -10,7 +10,7 @@ use refusals::Refusal;
 use strip::fits;
 
 // The sum of the samples' steps.
-#[derive(Drop)]
+#[derive(Clone, Copy)]
 pub enum StripAnswer {
     Filled(u32),
     Refused(Refusal),

@@ -1,6 +1,8 @@
 // The structs of numbers that the C functions return. Each begins with the refusal, 0 for none; beside a refusal all else is 0.
+#![tactic(auto)]
+
 #[repr(C)]
-#[derive(Drop)]
+#[derive(Clone, Copy)]
 pub struct HeightResult {
     pub refusal: u32,
     pub steps: u32,
@@ -8,28 +10,28 @@ pub struct HeightResult {
 }
 
 #[repr(C)]
-#[derive(Drop)]
+#[derive(Clone, Copy)]
 pub struct StripResult {
     pub refusal: u32,
     pub steps: u32,
 }
 
 #[repr(C)]
-#[derive(Drop)]
+#[derive(Clone, Copy)]
 pub struct CountResult {
     pub refusal: u32,
     pub count: u32,
 }
 
 #[repr(C)]
-#[derive(Drop)]
+#[derive(Clone, Copy)]
 pub struct RestResult {
     pub refusal: u32,
     pub level: f32,
 }
 
 #[repr(C)]
-#[derive(Drop)]
+#[derive(Clone, Copy)]
 pub struct ScaleResult {
     pub refusal: u32,
     pub kind: u32,
@@ -37,14 +39,14 @@ pub struct ScaleResult {
 }
 
 #[repr(C)]
-#[derive(Drop)]
+#[derive(Clone, Copy)]
 pub struct AnchoredResult {
     pub refusal: u32,
     pub anchored: u32,
 }
 
 #[repr(C)]
-#[derive(Drop)]
+#[derive(Clone, Copy)]
 pub struct CurveResult {
     pub refusal: u32,
     pub found: u32,

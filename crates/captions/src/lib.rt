@@ -19,7 +19,7 @@ const RELEASE: u8 = 3;
 
 pub const NO_CAPTION: u8 = 255;
 
-#[derive(Drop)]
+#[derive(Clone, Copy)]
 pub enum Captioned {
     Written,
     WrongLength,

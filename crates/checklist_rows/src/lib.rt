@@ -13,7 +13,7 @@ use slew_trials::slew_trial;
 use trials::{Row, Trial, note, start};
 
 // Trials of one kind.
-#[derive(Drop)]
+#[derive(Clone, Copy)]
 pub enum Kind {
     Empty,
     Unnamed,

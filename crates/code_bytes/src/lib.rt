@@ -62,7 +62,7 @@ pub const SUSTAIN_CURVE: usize = 7;
 pub const RELEASE_CURVE: usize = 8;
 
 // The bytes that a code reads: the first `count` of eight.
-#[derive(Drop)]
+#[derive(Clone, Copy)]
 pub struct Bytes {
     pub at: [u8; 8],
     pub count: usize,

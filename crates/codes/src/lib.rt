@@ -1,27 +1,29 @@
 // The codes of a program's generators, as the reference's builders take them.
+#![tactic(auto)]
+
 ghost use Rattle.std.specs.Prelude.{◌≡◌, ◌≤◌};
 ghost use Rattle.codes.specs.Codes.{envelope_number, lfo_number, oscillator_number, code_number, code_of};
 
-#[derive(Drop)]
+#[derive(Clone, Copy)]
 pub enum EnvelopeId {
     Vca,
     Vcf,
     Mod,
 }
 
-#[derive(Drop)]
+#[derive(Clone, Copy)]
 pub enum LfoId {
     One,
     Two,
 }
 
-#[derive(Drop)]
+#[derive(Clone, Copy)]
 pub enum OscillatorId {
     One,
     Two,
 }
 
-#[derive(Drop)]
+#[derive(Clone, Copy)]
 pub enum Code {
     Envelope(EnvelopeId),
     Lfo(LfoId),
@@ -33,7 +35,7 @@ pub enum Code {
     Noise,
 }
 
-#[derive(Drop)]
+#[derive(Clone, Copy)]
 pub enum CodeRead {
     Known(Code),
     Above,

@@ -1,11 +1,13 @@
 // What every curve shares: where along it a position lies, and what its height comes to.
+#![tactic(auto)]
+
 ghost use Rattle.std.specs.Prelude.{◌≡◌, cond};
 ghost use Rattle.std.specs.Float.Ieee.{lt};
 ghost use Rattle.exact.specs.Binary32.{zero₃₂, one₃₂};
 ghost use Rattle.curve.specs.Curve.{position_of, clamp_unit_of, drawn_of};
 
 // A height, and how many steps its walk took: none but for a slewed LFO.
-#[derive(Drop)]
+#[derive(Clone, Copy)]
 pub struct Height {
     pub height: f32,
     pub steps: u32,

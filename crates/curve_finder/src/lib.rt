@@ -8,7 +8,7 @@ use level::is_level;
 use refusals::Refusal;
 
 // A byte or none, either with how many were tried; or why the level is refused.
-#[derive(Drop)]
+#[derive(Clone, Copy)]
 pub enum CurveAnswer {
     Found { byte: u8, tried: u32 },
     NoneFound { tried: u32 },

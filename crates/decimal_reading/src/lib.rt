@@ -1,9 +1,11 @@
 // A number read from its decimal digits.
+#![tactic(auto)]
+
 ghost use Rattle.std.specs.Prelude.{◌≡◌, ◌≤◌};
 ghost use Rattle.decimal_reading.specs.Reading.{read_of, number_at_most};
 
 // What digits stand for.
-#[derive(Drop)]
+#[derive(Clone, Copy)]
 pub enum Number {
     Value(u64),
     NotANumber,

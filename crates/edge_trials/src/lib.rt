@@ -8,7 +8,7 @@ use strip::sample_position;
 use trials::{Input, Trial, no_trial};
 
 // The heights at the left edge and at the right one, in hundredths, of bytes that the codes from one up to another read alike.
-#[derive(Drop)]
+#[derive(Clone, Copy)]
 pub struct Edges {
     pub from: u32,
     pub to: u32,

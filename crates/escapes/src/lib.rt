@@ -1,4 +1,6 @@
 // Any bytes as text, put into a lent buffer: as XML, or as a line that can be read.
+#![tactic(auto)]
+
 ghost use Rattle.std.specs.Prelude.{◌≡◌, ◌<◌};
 ghost use Rattle.text.specs.Text.{Puts};
 ghost use Rattle.escapes.specs.Escaped.{upper_of, hex_byte_of, shown_of, escaped_of, escaped_all, shown_all};

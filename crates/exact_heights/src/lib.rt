@@ -7,7 +7,7 @@ use number_lines::{Line, end_line, no_line, read_byte};
 use trials::{Row, note, start};
 
 // The row of the lines so far, and the line that is being read.
-#[derive(Drop)]
+#[derive(Clone, Copy)]
 pub struct Reading {
     pub row: Row,
     pub line: Line,

@@ -1,4 +1,6 @@
 // The CRC-32 of some bytes, by which a printed page can be held against the file that it was made of.
+#![tactic(auto)]
+
 ghost use Rattle.std.specs.Prelude.{◌≡◌};
 ghost use Rattle.fingerprint.specs.Crc32.{xor32, step_of, after_byte, crc32_of};
 

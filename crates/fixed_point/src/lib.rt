@@ -1,4 +1,6 @@
 // A height as a whole number: scaled exactly and rounded once, or compared exactly with whole numbers of 2^-32.
+#![tactic(auto)]
+
 ghost use Rattle.std.specs.Prelude.{◌≡◌, true, not, ◌&&◌, ◌+◌, ◌*◌, ◌/◌, ◌^◌, ◌<◌, ◌≤◌, ltb};
 ghost use Rattle.std.specs.Float.Ieee.{lt, le};
 ghost use Rattle.exact.specs.Binary32.{bits, zero₃₂, one₃₂};

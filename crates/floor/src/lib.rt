@@ -1,4 +1,6 @@
 // The largest whole number not above an f32, and what is left above it. Each takes every f32, a NaN, an infinity and a zero of either sign among them.
+#![tactic(auto)]
+
 ghost use Rattle.std.specs.Prelude.{◌≡◌};
 ghost use Rattle.floor.specs.Formula.{floor_of, fract_of};
 

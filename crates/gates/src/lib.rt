@@ -8,14 +8,14 @@ use settings::byte;
 pub const GATES_DRAWN: usize = 4;
 
 // A gate opens at its start and closes at its end, both in steps.
-#[derive(Drop)]
+#[derive(Clone, Copy)]
 pub struct Gate {
     pub start: f32,
     pub end: f32,
 }
 
 // The first `count` places are gates: all four, or none.
-#[derive(Drop)]
+#[derive(Clone, Copy)]
 pub struct Gates {
     pub places: [Gate; GATES_DRAWN],
     pub count: usize,

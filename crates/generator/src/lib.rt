@@ -8,7 +8,7 @@ use marks::{
 use settings::{Envelope, Fade, Filter, Lfo, Noise, Oscillator};
 
 // What a generator is a shape of.
-#[derive(Drop)]
+#[derive(Clone, Copy)]
 pub enum Shape {
     Envelope(Envelope),
     Fade(Fade),
@@ -19,14 +19,14 @@ pub enum Shape {
 }
 
 // What the horizontal covers: nothing that is published, a number of cycles, or a number of octaves about the corner.
-#[derive(Drop)]
+#[derive(Clone, Copy)]
 pub enum Scale {
     Normalised,
     Turns(f32),
     Octaves(f32),
 }
 
-#[derive(Drop)]
+#[derive(Clone, Copy)]
 pub struct Generator {
     pub shape: Shape,
     pub scale: Scale,

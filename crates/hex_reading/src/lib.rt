@@ -3,7 +3,7 @@ ghost use Rattle.std.specs.Prelude.{◌≡◌, ◌≤◌, length, drop};
 ghost use Rattle.hex_reading.specs.Reading.{digit_of, read_after, read_of};
 
 // What a text stands for.
-#[derive(Drop)]
+#[derive(Clone, Copy)]
 pub enum Pattern {
     Bits(u32),
     NotAPattern,

@@ -1,4 +1,6 @@
 // The words of a sheet: the titles of its panels, the names of segments, and what a byte stands for. Each is one of some words in a row.
+#![tactic(auto)]
+
 ghost use Rattle.text.specs.Text.{Puts};
 ghost use Rattle.labels.specs.Titles.{title_of, segment_name};
 ghost use Rattle.labels.specs.Notes.{switch_note, shape_note, poles_note, source_note, depth_note};

@@ -8,7 +8,7 @@ use math::abs;
 pub const SAMPLES: usize = 1025;
 
 // How far two curves are apart where they are farthest, and the number of the first such sample.
-#[derive(Drop)]
+#[derive(Clone, Copy)]
 pub struct Largest {
     pub size: f32,
     pub index: u16,

@@ -1,4 +1,6 @@
 // Whether an f32 is a level: a number from 0 to 1.
+#![tactic(auto)]
+
 ghost use Rattle.std.specs.Prelude.{◌≡◌};
 ghost use Rattle.level.specs.Level.{is_level};
 

@@ -12,7 +12,7 @@ ghost use Rattle.level_reading.specs.Reading.{level_over, level_of};
 use float_bits::float_of;
 
 // What a text stands for.
-#[derive(Drop)]
+#[derive(Clone, Copy)]
 pub enum LevelRead {
     Level(f32),
     NotALevel,

@@ -1,4 +1,6 @@
 // What writers of arrays share: a count that is never above the most.
+#![tactic(auto)]
+
 ghost use Rattle.std.specs.Prelude.{◌≡◌, ◌≤◌, min};
 
 // The smaller of a count and the most that there can be.

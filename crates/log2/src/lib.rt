@@ -1,4 +1,6 @@
 // The logarithm to base 2 of an f32, which may be a NaN, an infinity, a zero or a negative number.
+#![tactic(auto)]
+
 ghost use Rattle.std.specs.Prelude.{◌≡◌};
 ghost use Rattle.log2.specs.Formula.{log2_mantissa, log2_of};
 

@@ -5,7 +5,7 @@ ghost use Rattle.marks.specs.Marks.{segment_number, kind_number, no_marks, mark_
 use settings::{Envelope, Fade, Oscillator};
 
 // The segments of an envelope, in their order.
-#[derive(Drop)]
+#[derive(Clone, Copy)]
 pub enum Segment {
     Attack,
     Decay,
@@ -14,7 +14,7 @@ pub enum Segment {
 }
 
 // What is at a mark: the start of a segment, a filter's corner, the end of a cycle, a tap, a pulse's falling edge, or an end of that edge's sweep.
-#[derive(Drop)]
+#[derive(Clone, Copy)]
 pub enum MarkKind {
     Segment(Segment),
     Corner,
@@ -24,7 +24,7 @@ pub enum MarkKind {
     Sweep,
 }
 
-#[derive(Drop)]
+#[derive(Clone, Copy)]
 pub struct Mark {
     pub at: f32,
     pub kind: MarkKind,
@@ -34,7 +34,7 @@ pub struct Mark {
 pub const MAX_MARKS: usize = 8;
 
 // The first `count` places are marks; the others all hold one mark, which says nothing.
-#[derive(Drop)]
+#[derive(Clone, Copy)]
 pub struct Marks {
     pub places: [Mark; MAX_MARKS],
     pub count: usize,

@@ -16,8 +16,8 @@ ne_self (inf false) = refl
 ne_self (fin true m e) = simp (eq-eqb (m * up e * down e) (m * up e * down e) refl)
 ne_self (fin false m e) = simp (eq-eqb (m * up e * down e) (m * up e * down e) refl)
 
-pub is_nan : (b : Bool) (x : Float) → ne x x ≡ b → is_nan x ≡ b
-is_nan b x h = sym (ne_self x) ∙ h
+pub is_nan_tested : (b : Bool) (x : Float) → ne x x ≡ b → is_nan x ≡ b
+is_nan_tested b x h = sym (ne_self x) ∙ h
 
 pub not_nan : (x : Float) → is_nan x ≡ false → T (not (is_nan x))
 not_nan x h = subst (λ (b : Bool). T (not b)) (sym h) tt

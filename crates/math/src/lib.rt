@@ -1,4 +1,6 @@
 // The small functions of floats: min, clamp, abs, and a number of 16 bits as a float. Each takes every f32, a NaN, an infinity and a zero of either sign among them.
+#![tactic(auto)]
+
 ghost use Rattle.std.specs.Prelude.{◌≡◌, pos};
 ghost use Rattle.std.specs.Float.{binary32};
 ghost use Rattle.std.specs.Float.Ieee.{of_int};

@@ -1,11 +1,13 @@
 // The lines of a list of numbers, read a byte at a time. A line is a letter or none, then hexadecimal numbers, then a comment or none.
+#![tactic(auto)]
+
 ghost use Rattle.std.specs.Prelude.{◌≡◌, ◌≤◌};
 ghost use Rattle.number_lines.specs.Lines.{digit_of, no_line, with_digit, pushed, with_number, is_blank, may_lead, with_sign, read_one, line_ended};
 
 // The most numbers of a line.
 pub const MOST: usize = 9;
 
-#[derive(Drop)]
+#[derive(Clone, Copy)]
 pub struct Line {
     // The letter, and 0 where the line has none.
     pub letter: u8,

@@ -1,4 +1,6 @@
 // Numbers as text, put into a lent buffer: in decimal, as hexadecimal digits, and with a point.
+#![tactic(auto)]
+
 ghost use Rattle.std.specs.Prelude.{◌≡◌, ◌-◌, ◌^◌, ◌<◌, ◌≤◌};
 ghost use Rattle.text.specs.Text.{Puts};
 ghost use Rattle.numerals.specs.Spelled.{glyph_of, digits_of, digit_count, decimal_of, hex_of, fixed_of};

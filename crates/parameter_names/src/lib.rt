@@ -1,4 +1,6 @@
 // The names of a program's 242 parameters.
+#![tactic(auto)]
+
 ghost use Rattle.text.specs.Text.{Puts};
 ghost use Rattle.parameter_names.specs.ParameterNames.{parameter_name};
 

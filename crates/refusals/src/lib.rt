@@ -1,9 +1,11 @@
 // Why an input is refused, and the number of each reason.
+#![tactic(auto)]
+
 ghost use Rattle.std.specs.Prelude.{◌≡◌};
 ghost use Rattle.refusals.specs.Refusals.{refusal_number, answer_refusal};
 
 // The block's length, the code, the strip's length, a level that is none, a number of turns other than 6 or 8.
-#[derive(Drop)]
+#[derive(Clone, Copy)]
 pub enum Refusal {
     Block,
     Code,
@@ -13,7 +15,7 @@ pub enum Refusal {
 }
 
 // An answer with nothing beside it, or with arrays, which an enum does not hold.
-#[derive(Drop)]
+#[derive(Clone, Copy)]
 pub enum Answer {
     Accepted,
     Refused(Refusal),

@@ -9,7 +9,7 @@ use shape_heights::shape_height;
 use taps::Taps;
 
 // A word, or nothing where there is none to be had.
-#[derive(Drop)]
+#[derive(Clone, Copy)]
 pub enum Answer {
     Word(u32),
     Nothing,

@@ -1,4 +1,6 @@
 // The block that a seed stands for in the list of the reference's answers: reference/generator/list.rs draws the same.
+#![tactic(auto)]
+
 ghost use Rattle.std.specs.Prelude.{◌≡◌, ◌<◌, length};
 ghost use Rattle.replay_blocks.specs.Drawn.{next_of, byte_of, drawn_block};
 

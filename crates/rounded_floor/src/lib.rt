@@ -1,4 +1,6 @@
 // The same floor by rounding, and what is left above it, for where that is quicker. Each takes every f32, a NaN, an infinity and a zero of either sign among them.
+#![tactic(auto)]
+
 ghost use Rattle.std.specs.Prelude.{◌≡◌};
 ghost use Rattle.floor.specs.Formula.{floor_of, fract_of};
 ghost use Rattle.rounded_floor.specs.Rounding.{nearby_of, step_down_of};

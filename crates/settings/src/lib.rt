@@ -1,11 +1,13 @@
 // The settings of each generator: plain data, built by value from a program's bytes. An envelope's are built in envelope_settings.
+#![tactic(auto)]
+
 ghost use Rattle.std.specs.Prelude.{◌≡◌};
 ghost use Rattle.settings.specs.Settings.{byte_of, lfo_shape_of, sampled_turns, turns_of, lfo_of, turned_lfo, fade_of, low_pass_of, high_pass_of, pole_slope_of, is_manual, oscillator_one_of, oscillator_two_of, noise_of};
 
 use math::from_u16;
 
 // Where an envelope's attack, decay and sustain end, its two levels, and the bends of its timed segments.
-#[derive(Drop)]
+#[derive(Clone, Copy)]
 pub struct Envelope {
     pub first: f32,
     pub second: f32,
@@ -17,7 +19,7 @@ pub struct Envelope {
     pub release_bend: f32,
 }
 
-#[derive(Drop)]
+#[derive(Clone, Copy)]
 pub enum LfoShape {
     Sine,
     Triangle,
@@ -29,13 +31,13 @@ pub enum LfoShape {
 }
 
 // How many cycles of a sampled shape are drawn.
-#[derive(Drop)]
+#[derive(Clone, Copy)]
 pub enum SampledTurns {
     Six,
     Eight,
 }
 
-#[derive(Drop)]
+#[derive(Clone, Copy)]
 pub struct Lfo {
     pub shape: LfoShape,
     pub turns: f32,
@@ -45,19 +47,19 @@ pub struct Lfo {
 }
 
 // Where the rise ends.
-#[derive(Drop)]
+#[derive(Clone, Copy)]
 pub struct Fade {
     pub end: f32,
 }
 
 // The side of the corner that is passed.
-#[derive(Drop)]
+#[derive(Clone, Copy)]
 pub enum Pass {
     Low,
     High,
 }
 
-#[derive(Drop)]
+#[derive(Clone, Copy)]
 pub struct Filter {
     pub slope: f32,
     pub resonance: f32,
@@ -65,7 +67,7 @@ pub struct Filter {
     pub pass: Pass,
 }
 
-#[derive(Drop)]
+#[derive(Clone, Copy)]
 pub struct Oscillator {
     pub saw: bool,
     pub pulse: bool,
@@ -74,7 +76,7 @@ pub struct Oscillator {
     pub level: f32,
 }
 
-#[derive(Drop)]
+#[derive(Clone, Copy)]
 pub struct Noise {
     pub level: f32,
 }

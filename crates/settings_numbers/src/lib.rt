@@ -9,7 +9,7 @@ use settings::{Envelope, Filter, Lfo, LfoShape, Oscillator, Pass};
 pub const MAX_SETTINGS: usize = 8;
 
 // The first `count` places are settings; the others are 0.
-#[derive(Drop)]
+#[derive(Clone, Copy)]
 pub struct Numbers {
     pub places: [f32; MAX_SETTINGS],
     pub count: usize,

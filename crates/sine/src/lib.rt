@@ -1,4 +1,6 @@
 // The sine of a number of turns, which may be any f32: the turn's part is folded to a quarter, and a polynomial gives the sine there.
+#![tactic(auto)]
+
 ghost use Rattle.std.specs.Prelude.{◌≡◌};
 ghost use Rattle.sine.specs.Formula.{half_of, quarter_of, sign_of, sine_of_quarter, sin_turns_of};
 

@@ -1,4 +1,6 @@
 // The impulse train of a delay: a spike at each of its taps.
+#![tactic(auto)]
+
 ghost use Rattle.std.specs.Prelude.{◌≡◌, false};
 ghost use Rattle.std.specs.Float.Ieee.{lt};
 ghost use Rattle.exact.specs.Binary32.{zero₃₂};
@@ -16,7 +18,7 @@ pub const MAX_TAPS: usize = 4;
 const WIDTH: f32 = 0.014;
 
 // Where each tap falls and how tall it is; the first `used` of them are taps.
-#[derive(Drop)]
+#[derive(Clone, Copy)]
 pub struct Taps {
     pub at: [f32; MAX_TAPS],
     pub tall: [f32; MAX_TAPS],

@@ -1,4 +1,6 @@
 // Text written into a lent buffer. Each writer stores its text from a position on, and answers the next position; what does not fit is left out.
+#![tactic(auto)]
+
 ghost use Rattle.std.specs.Prelude.{[], ◌∷◌};
 ghost use Rattle.text.specs.Text.{Puts};
 

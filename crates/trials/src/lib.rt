@@ -4,7 +4,7 @@ ghost use Rattle.trials.specs.Trials.{no_input, nothing, row_of, passes_of};
 ghost use Rattle.trials.specs.Noted.{plus_of, noted_of};
 
 // A height that is asked for: the generator's code, the bytes that it reads as one number, and the position's bits.
-#[derive(Drop)]
+#[derive(Clone, Copy)]
 pub struct Input {
     pub code: u32,
     pub bytes: u64,
@@ -12,7 +12,7 @@ pub struct Input {
 }
 
 // Whether a trial is right, how many values it compares, and the input that stands for them.
-#[derive(Drop)]
+#[derive(Clone, Copy)]
 pub struct Trial {
     pub right: bool,
     pub values: u32,
@@ -23,7 +23,7 @@ pub struct Trial {
 pub const KEPT: usize = 3;
 
 // How many values were compared, how many trials are not right, and the inputs of the first of those.
-#[derive(Drop)]
+#[derive(Clone, Copy)]
 pub struct Row {
     pub tried: u32,
     pub failed: u32,

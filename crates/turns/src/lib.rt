@@ -5,7 +5,7 @@ ghost use Rattle.turns.specs.Turns.{turns_read, turned_of};
 use generator::Shape;
 use settings::{SampledTurns, turned_lfo};
 
-#[derive(Drop)]
+#[derive(Clone, Copy)]
 pub enum TurnsRead {
     Known(SampledTurns),
     Other,

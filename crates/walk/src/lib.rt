@@ -41,7 +41,7 @@ pub fn limit_of(slew: f32) -> f32
 }
 
 // A walk on its way: the full steps behind it, where the last of them ends, and the level there.
-#[derive(Drop)]
+#[derive(Clone, Copy)]
 pub struct Walk {
     pub full: u16,
     pub place: f32,

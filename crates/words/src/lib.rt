@@ -1,4 +1,6 @@
 // One of some words, in a row with a bar between two, put into a lent buffer; and the place of a byte in a list.
+#![tactic(auto)]
+
 ghost use Rattle.std.specs.Prelude.{◌≡◌, drop};
 ghost use Rattle.text.specs.Text.{Puts};
 ghost use Rattle.words.specs.Words.{first_word, past_bar, word_of, index_of};

@@ -1,8 +1,0 @@
--- `put_depth` puts `depth_note`: the word that it asks for. Assumes nothing.
-use borrow.Author.Rules.{rules}
-use Rattle.labels.proofs.put_depth.Statement.{statement}
-use Rattle.labels.proofs.put_depth.Tie as tie
-
-pub put_depth_spec : {M : Type 1} → statement M
-put_depth_spec = tie.close
-    (tie.spec (λ c. search rules) (λ c κs. search rules) (λ c. search rules) (λ c. c.before.before.put_word.ensures))
