@@ -121,6 +121,7 @@ class Fn:
 def body_of(fn, place, text, notes):
     """The paths of c in a text, in today's names."""
     aliases = {"c": 0}
+    text = re.sub(r"«([^»]*)»", r"\1", text)
     # lets that only name a place
     def drop(m):
         name, root, befores = m.group(2), m.group(3), m.group(4)

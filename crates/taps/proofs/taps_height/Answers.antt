@@ -17,7 +17,7 @@ returns c =
     let at = c.well_formed.0.1.1.0 in
     let tall = c.well_formed.0.1.1.1.0 in
     taps_answered c.args.taps c.args.t c.drawn_from_zero.result
-    (λ i. field_held c.args.taps.at at.0 i at.1.1)
-    (λ i. field_held c.args.taps.tall tall.0 i tall.1.1)
+    (λ i. field_held c.args.taps.at _ i at.1.1)
+    (λ i. field_held c.args.taps.tall _ i tall.1.1)
     (subst T (sym c.well_formed.1.0.1) tt)
     (simp (c.drawn_from_zero.ensures, c.taps_level.ensures, c.position.ensures))
