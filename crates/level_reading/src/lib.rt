@@ -109,7 +109,8 @@ fn rounded_copy(places: &[u8]) -> f32
     ensures { result ≡ round binary32 false (number_of places.now) (10 ^ length places.now) }
 {
     let mut digits = [0u8; MAX_PLACES];
-    let n = bytes::copy(places, &mut digits[..places.len()]);
+    let n = places.len();
+    digits[..n].copy_from_slice(places);
     rounded(&mut digits[..n])
 }
 
