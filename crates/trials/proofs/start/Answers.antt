@@ -2,9 +2,12 @@
 use borrow.Author.Rules.{rules}
 use Rattle.lists.specs.Padded.{padded}
 use Rattle.trials.specs.Trials.{values_of, failing_of, row_by, row_of}
-use Rattle.trials.proofs.start.Statement.{statement}
-use Rattle.trials.proofs.start.Tie as tie
+use Rattle.trials.proofs.start.Goals as goal
 
-pub start_spec : {M : Type 1} → statement M
+pub no_input-requires : goal.no_input-requires
 unfolding values_of failing_of padded row_by row_of
-start_spec = tie.close (tie.spec (λ c κs. search rules) (λ c. simp c.no-input.ensures))
+no_input-requires c = search rules
+
+pub returns : goal.returns
+unfolding values_of failing_of padded row_by row_of
+returns c = simp c.no_input.ensures
