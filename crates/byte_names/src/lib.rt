@@ -1,4 +1,6 @@
 // The names of the bytes that a generator or the arpeggio reads. Each is one of some words in a row.
+#![tactic(auto)]
+
 ghost use Rattle.text.specs.Text.{Puts};
 ghost use Rattle.byte_names.specs.ByteNames.{lfo_name, envelope_name, other_name, byte_name};
 

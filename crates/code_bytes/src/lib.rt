@@ -1,4 +1,6 @@
 // Where in a block each code finds its bytes.
+#![tactic(auto)]
+
 ghost use Rattle.std.specs.Prelude.{◌≡◌, [], ◌∷◌, ◌+◌, ◌≤◌, ◌<◌, length, take};
 ghost use Rattle.code_bytes.specs.Bytes.{byte_at, block_length, slew_place, release_curve_place, envelope_first, lfo_first, fade_byte, envelope_bytes, lfo_bytes, bytes_of};
 

@@ -1,6 +1,8 @@
 // The lines that say what to dial in, with no note or with the byte of a curve: a dial's name, its byte, and, beside a
 // byte that differs from an older block's, what it was.
 // `n` is the byte's number in both blocks. Without an older program both are the same block.
+#![tactic(auto)]
+
 ghost use Rattle.text.specs.Text.{Puts};
 ghost use Rattle.code_bytes.specs.Bytes.{byte_at};
 ghost use Rattle.dial_lines.specs.Lines.{plain_dial, only_dial, curve_note, curved_dial};

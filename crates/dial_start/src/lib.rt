@@ -1,4 +1,6 @@
 // How a line that says what to dial in begins: the dial's name, its byte, and, beside a byte that differs from an older block's, what it was.
+#![tactic(auto)]
+
 ghost use Rattle.text.specs.Text.{Puts};
 ghost use Rattle.dial_start.specs.Start.{was_text, note_start, name_start, dial_start, dial_end};
 

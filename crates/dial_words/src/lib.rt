@@ -1,5 +1,7 @@
 // The lines that say what to dial in whose note is a word: what the byte stands for. `n` is the byte's number in both
 // blocks, as in `dial_lines`.
+#![tactic(auto)]
+
 ghost use Rattle.text.specs.Text.{Puts};
 ghost use Rattle.code_bytes.specs.Bytes.{byte_at};
 ghost use Rattle.dial_words.specs.Words.{switch_dial, shape_dial, poles_dial, source_dial, depth_dial};

@@ -1,5 +1,7 @@
 // The lines of a panel that say what to dial in, for each code: what differs from an older block says what it was.
 // Without an older program both are the same block.
+#![tactic(auto)]
+
 ghost use Rattle.text.specs.Text.{Puts};
 ghost use Rattle.code_bytes.specs.Bytes.{byte_at};
 ghost use Rattle.dials.specs.Dials.{dials_of};

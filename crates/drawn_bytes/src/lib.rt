@@ -1,4 +1,6 @@
 // Which bytes of a block a curve, or the gates, are drawn from.
+#![tactic(auto)]
+
 ghost use Rattle.std.specs.Prelude.{◌≡◌};
 ghost use Rattle.codes.specs.Codes.{code_of};
 ghost use Rattle.drawn_bytes.specs.Drawn.{read_by, drawn};

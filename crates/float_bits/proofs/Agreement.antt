@@ -7,7 +7,7 @@ use Rattle.float_bits.specs.Agreement.{agree}
 
 pub with_nan : (x y : Float) → ne x x ≡ true → ne y y ≡ agree x y
 unfolding agree
-with_nan x y h = simp (is_nan_tested true x h, is_nan (ne y y) y refl)
+with_nan x y h = simp (is_nan_tested true x h, is_nan_tested (ne y y) y refl)
 
 pub with_number : (x y : Float) → ne x x ≡ false → eq x y ≡ agree x y
 unfolding agree

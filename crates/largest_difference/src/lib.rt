@@ -1,4 +1,6 @@
 // How far two curves are apart where they are farthest, and at which sample.
+#![tactic(auto)]
+
 ghost use Rattle.std.specs.Prelude.{◌≡◌, ◌<◌, length};
 ghost use Rattle.largest_difference.specs.Largest.{compared_samples, heights_of, difference_at, larger_of, largest_of};
 

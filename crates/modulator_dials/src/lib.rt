@@ -1,5 +1,7 @@
 // The lines of the envelopes and LFOs that say what to dial in, from a generator's first byte on. Without an older
 // program both blocks are the same.
+#![tactic(auto)]
+
 ghost use Rattle.std.specs.Prelude.{◌+◌, ◌<◌};
 ghost use Rattle.text.specs.Text.{Puts};
 ghost use Rattle.code_bytes.specs.Bytes.{byte_at, block_length, slew_place, release_curve_place};

@@ -1,4 +1,6 @@
 // A number from 0 to 1 as text, in nine places.
+#![tactic(auto)]
+
 ghost use Rattle.text.specs.Text.{Puts};
 ghost use Rattle.nine_places.specs.Places.{nine_places};
 

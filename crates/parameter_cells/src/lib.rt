@@ -1,4 +1,6 @@
 // What stands in a row of the page of all parameters: a rule above a group, a dot beside what is drawn, and the cells.
+#![tactic(auto)]
+
 ghost use Rattle.text.specs.Text.{Puts};
 ghost use Rattle.parameter_cells.specs.Cells.{rule_text, dot_text, cells_text};
 

@@ -1,4 +1,6 @@
 // Where the row of a parameter stands on the page of all parameters.
+#![tactic(auto)]
+
 ghost use Rattle.text.specs.Text.{Puts};
 ghost use Rattle.parameter_places.specs.Places.{place_text};
 

@@ -1,4 +1,6 @@
 // The rows of the page of all parameters: number, name and byte.
+#![tactic(auto)]
+
 ghost use Rattle.std.specs.Prelude.{◌≡◌, length};
 ghost use Rattle.text.specs.Text.{Puts};
 ghost use Rattle.code_bytes.specs.Bytes.{byte_at, block_length};

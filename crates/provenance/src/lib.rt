@@ -1,4 +1,6 @@
 // What a page is of: the program's name, the file of its block, and the block's CRC-32.
+#![tactic(auto)]
+
 ghost use Rattle.std.specs.Prelude.{◌≡◌, length};
 ghost use Rattle.text.specs.Text.{Puts};
 ghost use Rattle.code_bytes.specs.Bytes.{block_length};

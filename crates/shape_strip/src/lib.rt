@@ -28,8 +28,8 @@ pub fn fill(shape: Shape, out: &mut [f32]) -> u32
 
 // One walk along all samples.
 pub fn fill_once(shape: Shape, out: &mut [f32]) -> u32
-    requires shape_value { goes_forward shape ≡ true }
-    requires in_bounds { (2 ≤ length out.old) × (length out.old ≤ 4096) }
+    requires shape_forward { goes_forward shape ≡ true }
+    requires fits { (2 ≤ length out.old) × (length out.old ≤ 4096) }
     ensures { (result ≡ steps_once shape (length out.old)) × (out.new ≡ filled_of shape (length out.old) (length out.old) out.old) }
 {
     match shape {

@@ -1,5 +1,7 @@
 // The lines of the low-pass filter and of oscillator 1 that say what to dial in. Without an older program both blocks
 // are the same.
+#![tactic(auto)]
+
 ghost use Rattle.text.specs.Text.{Puts};
 ghost use Rattle.code_bytes.specs.Bytes.{byte_at};
 ghost use Rattle.tone_dials.specs.Tones.{low_pass_dials, oscillator_dials};

@@ -1,4 +1,6 @@
 // The bytes that no curve draws, in a comparison: whether any differs between two blocks, and a line for each that does.
+#![tactic(auto)]
+
 ghost use Rattle.std.specs.Prelude.{◌≡◌, length};
 ghost use Rattle.text.specs.Text.{Puts};
 ghost use Rattle.code_bytes.specs.Bytes.{byte_at, block_length};

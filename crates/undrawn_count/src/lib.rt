@@ -1,4 +1,6 @@
 // How many of the bytes that no curve draws differ between two blocks.
+#![tactic(auto)]
+
 ghost use Rattle.std.specs.Prelude.{◌≡◌, ◌≤◌, length};
 ghost use Rattle.code_bytes.specs.Bytes.{byte_at, block_length};
 ghost use Rattle.undrawn_count.specs.Count.{differs, differ_count, undrawn_count};

@@ -1,4 +1,6 @@
 // A line for each byte that no curve draws and that differs between two blocks.
+#![tactic(auto)]
+
 ghost use Rattle.std.specs.Prelude.{◌≡◌, length};
 ghost use Rattle.text.specs.Text.{Puts};
 ghost use Rattle.code_bytes.specs.Bytes.{byte_at, block_length};

@@ -1,4 +1,3 @@
-use Prim.Native.Nat.{◌-◌}
 use Rattle.text.proofs.Writing.{left_all, left_none}
 use Rattle.escapes.proofs.EachByte.{byte_less, none_left}
 use borrow.Author.Rules.{rules}

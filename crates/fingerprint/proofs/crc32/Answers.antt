@@ -1,5 +1,4 @@
 use mathlib.Core.Path.{refl}
-use Prim.Native.Nat.{◌-◌}
 use borrow.Author.Rules.{rules}
 use Rattle.fingerprint.proofs.Bits.{byte_taken, all_taken}
 use Rattle.fingerprint.proofs.crc32.Goals as goal

@@ -1,4 +1,3 @@
-use Prim.Native.Nat.{◌-◌}
 use borrow.Author.Rules.{rules}
 use Rattle.fingerprint.proofs.Bits.{no_step, step_more, all_steps}
 use Rattle.fingerprint.proofs.take_byte.Goals as goal

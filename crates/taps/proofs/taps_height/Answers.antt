@@ -13,7 +13,6 @@ drawn_from_zero-requires c = level_from_zero _ _ _ c.taps_level.ensures
 pub returns : goal.returns
 unfolding taps_height_of
 returns c =
-    
     let at = c.well_formed.0.1.1.0 in
     let tall = c.well_formed.0.1.1.1.0 in
     taps_answered c.args.taps c.args.t c.drawn_from_zero.result

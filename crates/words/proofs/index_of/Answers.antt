@@ -1,4 +1,3 @@
-use Prim.Native.Nat.{◌-◌}
 use borrow.Author.Rules.{rules}
 use Rattle.words.proofs.Words.{place_here, place_further, place_none}
 use Rattle.words.proofs.index_of.Goals as goal

@@ -1,5 +1,4 @@
 use mathlib.Core.Path.{refl, sym, ◌∙◌}
-use Prim.Native.Nat.{◌-◌}
 use Rattle.words.proofs.Words.{past_bar_lem, past_letter, past_end}
 use Rattle.words.proofs.next_word.Goals as goal
 

@@ -1,4 +1,3 @@
-use Prim.Native.Nat.{◌-◌}
 use borrow.Author.Rules.{rules}
 use Rattle.text.proofs.Writing.{left_all, left_less, left_none}
 use Rattle.words.proofs.Words.{word_bar, word_letter, word_end}

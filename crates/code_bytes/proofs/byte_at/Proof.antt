@@ -1,9 +1,0 @@
--- `byte_at` is `byte_at`. Assumes nothing.
-use mathlib.Core.Path.{sym}
-use lib.ListN.{get_or-eq_default}
-use borrow.Author.Rules.{rules}
-use Rattle.code_bytes.proofs.byte_at.Statement.{statement}
-use Rattle.code_bytes.proofs.byte_at.Tie as tie
-
-pub byte_at_spec : {M : Type 1} → statement M
-byte_at_spec = tie.close (tie.spec (λ c. search rules) (λ c. search rules) (λ c. sym (get_or-eq_default c.before.args.block.now 0 c.if1.false)))

@@ -1,0 +1,11 @@
+-- `put_shape` writes `shape_dial` of the two bytes. Assumes nothing.
+use Rattle.text.proofs.Writing.{◌⨾◌}
+use Rattle.dial_lines.specs.Lines.{dial_text}
+use Rattle.dial_words.proofs.put_shape.Goals as goal
+
+pub returns : goal.returns
+unfolding dial_text
+returns c =
+    rw (c.byte_at-b.ensures, c.byte_at.ensures) at (c.start-next.ensures ⨾
+    c.put_shape-next.ensures ⨾
+    c.end.ensures)
