@@ -1,4 +1,6 @@
 // The strip of a shape, by the loop of its family; an LFO with slew has a walk for each sample, or one along them all. The caller has tested the length.
+#![tactic(auto)]
+
 ghost use Rattle.std.specs.Prelude.{◌≡◌, true, ◌≤◌, length};
 ghost use Rattle.strip.specs.Strip.{filled_of, step_sum};
 ghost use Rattle.lfo_strip_once.specs.Once.{steps_once};
