@@ -1,5 +1,7 @@
 // A level read from its decimals: the number that is written is taken exactly, and rounded once to an f32. Its places are doubled again and again, as digits;
 // what is carried out in front of them is the number's binary places.
+#![tactic(auto)]
+
 ghost use Rattle.std.specs.Prelude.{◌≡◌, false, ◌∷◌, eqb, length};
 ghost use Prim.Native.Nat.{◌*◌, ◌^◌, ◌≤◌, ◌<◌, compare};
 ghost use Rattle.std.specs.Float.{binary32};
@@ -109,7 +111,8 @@ fn rounded_copy(places: &[u8]) -> f32
     ensures { result ≡ round binary32 false (number_of places.now) (10 ^ length places.now) }
 {
     let mut digits = [0u8; MAX_PLACES];
-    let n = bytes::copy(places, &mut digits[..places.len()]);
+    let n = places.len();
+    digits[..n].copy_from_slice(places);
     rounded(&mut digits[..n])
 }
 
