@@ -27,7 +27,7 @@ sources() {
         cd "$root/crates" || exit
         crates=$(plan "$@" | cut -d ' ' -f 1)
         # shellcheck disable=SC2086
-        find ../crates.txt $crates -name must-fail -prune -o -type f -exec sha256sum {} + | LC_ALL=C sort | digest
+        find ../crates.txt $crates \( -name must-fail -o -name out \) -prune -o -type f -exec sha256sum {} + | LC_ALL=C sort | digest
     ) 2>/dev/null
 }
 
@@ -39,7 +39,15 @@ toolchain() {
     rt version 2>/dev/null
 }
 
-# What a crate is built into. A file beside it, NAME.digest, has the digests of its sources and of itself, and the toolchain that built it.
+# What a crate is built into, and what is kept of that: a copy, so that it is there while `rt` works in the crate. A file beside the copy, NAME.digest, has the digests of its sources and of
+# itself, and the toolchain that built it.
+made() {
+    case $1 in
+    juvrada) echo "$root/crates/$1/out/libjuvrada.a" ;;
+    *) echo "$root/crates/$1/out/$1" ;;
+    esac
+}
+
 product() {
     case $1 in
     juvrada) echo "$root/target/staticlib/libjuvrada.a" ;;
@@ -127,63 +135,77 @@ prove() { # PROGRAM or '', PRODUCT..
     plan ${goal:+"$goal"} >"$scratch/plan"
     steps=$(($(wc -l <"$scratch/plan")))
     say "${goal:-everything}, $steps steps; the first time that takes some minutes"
-    run_rt check ${goal:+"$goal"}
-    case " $* " in *' juvrada '*) say "the static library"; run_rt staticlib juvrada ;; esac
+    run_rt "$goal"
     keep "$@"
     say "${goal:-everything} built in $(($(date +%s) - start)) s"
 }
 
+# What crates are built from now, in the temporary folder.
 note() {
     for name in "$@"; do
-        made=$(product "$name")
-        # rt does not look whether a program that it has proved is still there
-        [ -s "$made" ] || rm -f "$root/target/stamp/$name"
         { sources "$name" && toolchain; } >"$scratch/$name.digest" || fail "$name: its sources cannot be read"
     done
 }
 
+# Keeps what was built of them since.
 keep() {
     for name in "$@"; do
-        made=$(product "$name")
-        { [ -s "$made" ] && digest <"$made" >>"$scratch/$name.digest" && cp "$scratch/$name.digest" "$made.digest"; } 2>/dev/null || fail "$made: cannot be written"
+        to=$(product "$name")
+        {
+            mkdir -p "${to%/*}" && [ -s "$(made "$name")" ] && cp -p "$(made "$name")" "$to.new" && digest <"$to.new" >>"$scratch/$name.digest" &&
+                rm -f "$to.digest" && mv -f "$to.new" "$to" && cp "$scratch/$name.digest" "$to.digest"
+        } 2>/dev/null || fail "$to: cannot be written"
     done
 }
 
-# Runs rt in a session of its own, so that it can be ended with all that it has started: those ignore Ctrl-C. Its temporary files are among ours.
-run_rt() {
+# Has rt prove and build a program with all that is below it, or everything, and run each program on what is kept for it. rt runs in a session of its own, so that it can be ended with all that
+# it has started: those ignore Ctrl-C. Its temporary files are among ours, and target/log has what it says.
+run_rt() { # PROGRAM or ''
     mkdir -p "$scratch/rt" && chmod 711 "$scratch" "$scratch/rt" && mkfifo "$scratch/lines" || fail "$scratch: cannot be written"
     session=setsid
     command -v setsid >/dev/null || session=
-    (cd "$root" && TMPDIR=$scratch/rt exec $session rt "$@") >"$scratch/lines" 2>&1 </dev/null &
+    (cd "$root${1:+/crates/$1}" && TMPDIR=$scratch/rt exec $session rt all test) >"$scratch/lines" 2>&1 </dev/null &
     child=$!
     trouble=
-    progress <"$scratch/lines"
+    progress <"$scratch/lines" 3>"$root/target/log"
     wait "$child"
     status=$?
     child=
     rm -f "$scratch/lines"
-    [ "$status" -eq 0 ] || fail "rt $*: ${trouble:-status $status}; expected a proof of each crate (target/log says more)"
+    [ "$status" -eq 0 ] || fail "rt all test${1:+ in crates/$1}: ${trouble:-status $status}; expected a proof of each crate (target/log says more)"
 }
 
-# Reads what rt says: a line for each crate, and what went wrong.
+# Reads what rt says: `== NAME` once it is done with a crate, then what was said of it, which is nothing where it is unchanged; at the end a line for each crate.
 progress() {
     seen=0
     done=0
     left=$(awk '{ sum += $2 } END { print sum }' "$scratch/plan")
-    while read -r word name verdict rest; do
-        case "$word $verdict $rest" in
-        'rt: proved ('*) step "$name" "$rest" ;;
-        'rt: NOT PROVED'* | 'rt: proved, and its run FAILED'*) trouble=${trouble:-"$name $verdict $rest"} ;;
+    name=
+    ending=
+    while IFS= read -r line; do
+        printf '%s\n' "$line" >&3
+        case $line in
+        '== '*)
+            [ -z "$name" ] || step "$name" unchanged
+            name=${line#== }
+            [ "$name" != summary ] || name='' ending=yes
+            continue
+            ;;
+        'rt: mend these first'*) trouble=${trouble:-${line#rt: }} ;;
+        *': ok') ;;
+        *': failed ('*) [ -z "$ending" ] || trouble=${trouble:-$line} ;;
         esac
+        [ -z "$name" ] || step "$name" proved
+        name=
     done
 }
 
-step() {
+step() { # NAME unchanged|proved
     weight=$(awk -v name="$1" '$1 == name { print $2 }' "$scratch/plan")
     seen=$((seen + 1))
-    left=$((left - weight))
-    case $2 in '(unchanged'*) return ;; esac
-    done=$((done + weight))
+    left=$((left - ${weight:-0}))
+    [ "$2" = proved ] || return 0
+    done=$((done + ${weight:-1}))
     say "$seen of $steps, $(minutes $((($(date +%s) - start) * left / done))) left"
 }
 

@@ -74,7 +74,7 @@ leaf() { # BLOCK or ''
     [ "$1" != - ] || leaf='standard input'
 }
 
-# Runs a program. It has no exit status of its own: its text is whole where the last line has a mark.
+# Runs a program. Its exit status says no more than whether it could read and write: its text is whole where the last line has a mark.
 run() { # PROGRAM INPUT MARK [ARGUMENT..]
     program=$1
     input=$2

@@ -15,7 +15,7 @@ import tempfile
 
 TRIVIAL = re.compile(r"^\(?λ c( κs)?\. search rules\)?$")
 # what a negated test says, said of what is negated
-NOTS = re.compile(r"\(not-(?:true|false) (?:_|\([^()]*\)|\S+) (c\.if-not-[\w.-]+)\)")
+NOTS = re.compile(r"(?<![\w-])not-(?:true|false) (?:_|\([^()]*\)|\S+) (c\.if-not-[\w.-]+)")
 SPECIAL = {"args", "requires", "ranges", "well-formed", "well_formed", "type-inv", "type_inv", "auto", "lifetimes"}
 
 
@@ -121,6 +121,7 @@ class Fn:
 def body_of(fn, place, text, notes):
     """The paths of c in a text, in today's names."""
     aliases = {"c": 0}
+    text = re.sub(r"«([^»]*)»", r"\1", text)
     # lets that only name a place
     def drop(m):
         name, root, befores = m.group(2), m.group(3), m.group(4)
@@ -339,7 +340,7 @@ def turn(crate, fn_name, path, info):
         body = re.sub(rf"^(\s*){re.escape(local)}((?: c)?)( κs)?(?=\s)", rf"\1{new}\2", body)
         # other clauses of the same answer
         lhs, _, rhs = body.partition("=")
-        rhs = body_of(fn, fn.at[i], rhs, notes)
+        rhs = re.sub(r"^\n(?:[ ]*\n)+", "\n", body_of(fn, fn.at[i], rhs, notes))
         ls.append(lhs + "=" + rhs)
         result.append((i, NOTS.sub(r"\1", "\n".join(ls))))
     result.sort(key=lambda r: r[0])

@@ -1,5 +1,5 @@
 # Of tests/commands/check: when a program is built, by whom and how often. A small checkout has the script and crates of a line each; a stand-in for rt says what rt says,
-# and copies the programs of this checkout instead of proving them. It notes each run in $stand/log.
+# and copies the programs of this checkout instead of proving them. It notes each run in $stand/log, with the folder that it is run in.
 
 checkout=$scratch/checkout
 stand=$scratch/stand
@@ -12,7 +12,7 @@ lists:
 text: lists
 page: text # types: lists
 
-sheet: page io libc
+sheet: page
 parameters: text
 compare: text
 heights: text
@@ -20,7 +20,7 @@ curve_search: text
 chart: text
 floor_working: text
 checklist: lists
-juvrada: lists
+juvrada staticlib: lists
 alone:
 END
 for crate in lists text page sheet parameters compare heights curve_search chart floor_working checklist juvrada alone; do
@@ -31,14 +31,14 @@ cp "$root/crates/checklist/stdin" "$checkout/crates/checklist/"
 echo 'stand-in 1' >"$stand/version"
 
 # What it does beside: waits while $stand/hold is there, with a process that ignores Ctrl-C as a prover does; changes a source if $stand/change is there; fails if $stand/break is.
-# As rt, it makes no program that its stamp calls unchanged.
 cat >"$stand/bin/rt" <<END
 #!/bin/sh
 stand='$stand' real='$root/target'
 END
 cat >>"$stand/bin/rt" <<'END'
 [ "$1" != version ] || exec cat "$stand/version"
-echo "$*" >>"$stand/log"
+case $PWD in */crates/*) goal=${PWD##*/}; top=${PWD%/*/*} ;; *) goal=everything top=$PWD ;; esac
+echo "$goal: $*" >>"$stand/log"
 mktemp -d >"$stand/temporary"
 if [ -e "$stand/hold" ]; then
   (trap '' INT; exec sleep 1000) &
@@ -47,33 +47,31 @@ if [ -e "$stand/hold" ]; then
   kill $!
 fi
 rm -r "$(cat "$stand/temporary")"
-mkdir -p target/bin target/staticlib target/stamp
+echo 'rt: chose 2 at a time'
 if [ -e "$stand/break" ]; then
-  echo 'rt: lists proved (1 s)'
-  echo 'rt: text NOT PROVED (exit 1, 3 s)'
-  echo 'rt: page NOT PROVED: its dependency text is not proved'
+  printf '%s\n' '== lists' '== text' 'a line of the prover' '== summary' 'lists: ok' 'text: failed (1)' 'page: not run, since text failed'
   exit 1
 fi
-case $* in
-'check sheet') crates='lists text page sheet' ;;
-'check parameters') crates='lists text parameters' ;;
-'check compare') crates='lists text compare' ;;
-check) crates='alone lists checklist juvrada text compare heights curve_search chart floor_working parameters page sheet' ;;
-'staticlib juvrada') cp "$stand/version" target/staticlib/libjuvrada.a; exit ;;
+case $goal:$* in
+'sheet:all test') crates='lists text page sheet' ;;
+'parameters:all test') crates='lists text parameters' ;;
+'compare:all test') crates='lists text compare' ;;
+'everything:all test') crates='alone lists checklist juvrada text compare heights curve_search chart floor_working parameters page sheet' ;;
 *) exit 3 ;;
 esac
 for crate in $crates; do
-  echo "a line of the prover"
-  case $crate in lists) echo "rt: lists proved (unchanged since it was last proved)" ;; *) echo "rt: $crate proved (2 s)" ;; esac
+  echo "== $crate"
+  [ "$crate" = lists ] || printf '%s\n' 'a line of the prover' 'rt: another'
+  mkdir -p "$top/crates/$crate/out"
   case $crate in
-  sheet | parameters | compare | heights | curve_search | chart | floor_working | checklist)
-    [ -e "target/stamp/$crate" ] && [ "$(cat "target/stamp/$crate")" = "$(cat crates/*/src/lib.rt)" ] || cp "$real/bin/$crate" target/bin/
-    cat crates/*/src/lib.rt >"target/stamp/$crate"
-    ;;
+  sheet | parameters | compare | heights | curve_search | chart | floor_working | checklist) cp "$real/bin/$crate" "$top/crates/$crate/out/" ;;
+  juvrada) cp "$stand/version" "$top/crates/$crate/out/libjuvrada.a" ;;
   esac
 done
-[ ! -e "$stand/change" ] || echo changed >>crates/text/src/lib.rt
-echo "rt: ok, some crates proved"
+[ ! -e "$stand/change" ] || echo changed >>"$top/crates/text/src/lib.rt"
+echo '== summary'
+for crate in $crates; do echo "$crate: ok"; done
+echo "some of some crates ok"
 END
 chmod +x "$stand/bin/rt"
 usual=$PATH
@@ -147,7 +145,7 @@ builds 0 "built with closed streams" "$door" sheet example
 # a build that fails is an error, and is tried again
 echo wrong >>"$checkout/crates/text/src/lib.rt"
 touch "$stand/break"
-failure='rt check sheet: text NOT PROVED (exit 1, 3 s); expected a proof of each crate (target/log says more)'
+failure='rt all test in crates/sheet: text: failed (1); expected a proof of each crate (target/log says more)'
 refused "$failure" "$door" sheet example
 refused "$failure" "$door" sheet -o page.svg example
 rm "$stand/break"
@@ -171,7 +169,7 @@ PATH=$stand/bin:$usual
 : >"$stand/log"
 run "$door" build
 expect "build: status $got" [ "$got" -eq 0 ]
-expect "build ran: $(cat "$stand/log")" [ "$(cat "$stand/log")" = $'check\nstaticlib juvrada' ]
+expect "build ran: $(cat "$stand/log")" [ "$(cat "$stand/log")" = 'everything: all test' ]
 expect "build says: $(head -n 1 err)" eval 'head -n 1 err | grep -q "^juvrada: build: everything, 13 steps" && grep -q "^juvrada: build: 13 of 13, " err'
 : >"$stand/log"
 same sheet-example 0 "$door" sheet example
@@ -182,8 +180,9 @@ same chart 0 "$door" chart
 same floor-0xc0200000 0 "$door" floor 0xc0200000
 same check 0 "$door" check
 expect "a command built again what build had built" [ ! -s "$stand/log" ]
+expect "build makes no library" cmp -s "$checkout/target/staticlib/libjuvrada.a" "$stand/version"
 run "$door" build
-expect "a second build makes the library again" [ "$(cat "$stand/log")" = check ]
+expect "a second build ran: $(cat "$stand/log")" [ "$(cat "$stand/log")" = 'everything: all test' ]
 
 # the estimate, by a clock that goes on by a minute at each look: of the weights 5 to 8 of lists, text, page and sheet 11 are done after text and page
 mkdir "$stand/clock"

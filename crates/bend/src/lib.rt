@@ -1,4 +1,6 @@
 // The bend of a curve byte, read from the chart.
+#![tactic(auto)]
+
 ghost use Rattle.std.specs.Prelude.{◌≡◌, ◌<◌, get_or};
 ghost use Rattle.std.specs.Float.{nan};
 ghost use Rattle.bends.specs.Formula.{Charted};

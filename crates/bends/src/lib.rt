@@ -1,4 +1,6 @@
 // The chart of bends: that of each curve byte.
+#![tactic(auto)]
+
 ghost use Rattle.std.specs.Prelude.{◌≡◌};
 ghost use Rattle.bends.specs.Formula.{chart_of};
 

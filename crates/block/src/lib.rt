@@ -1,4 +1,6 @@
 // A block of a program's bytes and a generator's code, settled as a known code or refused, and the height of what is settled.
+#![tactic(auto)]
+
 ghost use Rattle.std.specs.Prelude.{◌≡◌};
 ghost use Rattle.block.specs.Refusals.{settled_of};
 ghost use Rattle.block.specs.Promises.{HeightAnswered};

@@ -1,4 +1,6 @@
 // The generator that a block and a code choose, or the refusal; and what is promised of an answer that follows from it.
+#![tactic(auto)]
+
 ghost use Rattle.std.specs.Prelude.{◌≡◌};
 ghost use Rattle.block.specs.Refusals.{chosen_of};
 

@@ -1,4 +1,6 @@
 // The arpeggio's gates of a block, and its bars.
+#![tactic(auto)]
+
 ghost use Rattle.block_gates.specs.Answers.{gates_answer, bars_answer};
 ghost use Rattle.block_gates.specs.Promises.{GatesAnswered};
 

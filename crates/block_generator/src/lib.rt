@@ -1,4 +1,6 @@
 // What a block and a code say of a generator: its rest level, its scale, at a number of turns too, and whether it is anchored.
+#![tactic(auto)]
+
 ghost use Rattle.std.specs.Prelude.{◌≡◌};
 ghost use Rattle.block_choice.specs.Promises.{Answered};
 ghost use Rattle.block_turns.specs.Promises.{TurnsAnswered};

@@ -1,4 +1,6 @@
 // The marks of the generator of a block and a code, and at a number of turns.
+#![tactic(auto)]
+
 ghost use Rattle.std.specs.Prelude.{◌≡◌};
 ghost use Rattle.block_choice.specs.Promises.{Answered};
 ghost use Rattle.block_turns.specs.Promises.{TurnsAnswered};

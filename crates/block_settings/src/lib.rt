@@ -1,4 +1,6 @@
 // The settings of the generator of a block and a code.
+#![tactic(auto)]
+
 ghost use Rattle.block_choice.specs.Promises.{Answered};
 ghost use Rattle.block_settings.specs.Answers.{settings_answer, settings_refusal};
 

@@ -125,7 +125,7 @@ walked_once s turns bound h n t r e =
     k = (sample_of s n (n - 1)).steps
 
     fit : (2 ≤ n) × (n ≤ 4096)
-    fit = between n {fit = length_fits n} refl (ap not (is_true (length_fits n) t))
+    fit = between n {fit = length_fits n} refl (is_true (length_fits n) t)
 
     p : Promised s (slewed s) turns bound (sample_position n (n - 1)) (sample_of s n (n - 1))
     p = h (sample_position n (n - 1)) (sample_fits n (n - 1))

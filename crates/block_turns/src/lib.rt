@@ -1,4 +1,6 @@
 // The generator that a block, a code and a number of turns choose, or the refusal; and its height.
+#![tactic(auto)]
+
 ghost use Rattle.std.specs.Prelude.{◌≡◌};
 ghost use Rattle.block_turns.specs.Choice.{chosen_at, chosen_turns};
 ghost use Rattle.block_turns.specs.Promises.{HeightTurnsAnswered};

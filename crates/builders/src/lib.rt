@@ -1,4 +1,6 @@
 // The generator of a shape, and of the bytes that a shape is made of: a builder for each kind.
+#![tactic(auto)]
+
 ghost use Rattle.std.specs.Prelude.{◌≡◌, true, false};
 ghost use Rattle.settings.specs.Settings.{lfo_of, fade_of, low_pass_of, high_pass_of, oscillator_one_of, oscillator_two_of, noise_of};
 ghost use Rattle.envelope_settings.specs.Formula.{envelope_of};

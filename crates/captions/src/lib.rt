@@ -1,4 +1,6 @@
 // Captions: for each sample of an envelope, the segment that it lies in.
+#![tactic(auto)]
+
 ghost use Rattle.std.specs.Prelude.{◌≡◌, ◌≤◌, ◌+◌, length};
 ghost use Rattle.marks.specs.Marks.{envelope_marks};
 ghost use Rattle.lists.specs.Written.{written};

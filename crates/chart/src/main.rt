@@ -1,7 +1,9 @@
 // Writes the chart of bends on standard output.
+#![tactic(auto)]
+
 ghost use Rattle.std.specs.Prelude.{◌≡◌, length};
 
-use libc::STDOUT_FILENO;
+use std::io;
 
 // Room for the page, which has some 40,000 bytes. The contract gives its length only, which lending it as a slice asks for.
 fn buffer() -> [u8; 65536]
@@ -17,12 +19,11 @@ fn write_page(text: &mut [u8]) -> usize
     chart_page::page(text)
 }
 
-fn main() {
+fn main(rt: HostRuntime) -> io::Result<()> {
     let mut text = buffer();
     let end = write_page(&mut text);
     if end < 65536 {
-        io::write_all(STDOUT_FILENO, &text[..end]);
-        return;
+        return rt.write_all(&text[..end]);
     }
-    io::write_all(STDOUT_FILENO, b"the page is too long\n");
+    rt.write_all(b"the page is too long\n")
 }

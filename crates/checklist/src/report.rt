@@ -1,56 +1,46 @@
 // What the program writes.
-use libc::STDOUT_FILENO;
+use std::io;
 use trials::{Input, Row, passes};
 
-pub fn print(text: &[u8]) {
-    io::write_all(STDOUT_FILENO, text);
+fn print_input(to: &impl Print, input: Input) -> io::Result<()> {
+    let (code, bytes, position) = (input.code, input.bytes, input.position);
+    println!(to; "    code {code}, bytes {bytes:x}, position {position:08x}")
 }
 
-fn print_input(input: Input) {
-    print(b"    code ");
-    io::print_decimal(STDOUT_FILENO, input.code as u64);
-    print(b", bytes ");
-    io::print_hex(STDOUT_FILENO, input.bytes, 1);
-    print(b", position ");
-    io::print_hex(STDOUT_FILENO, input.position as u64, 8);
-    print(b"\n");
-}
-
-fn print_inputs(row: Row) {
+fn print_inputs(to: &impl Print, row: Row) -> io::Result<()> {
     let inputs = row.inputs;
     if 0 < row.failed {
-        print_input(inputs[0]);
+        print_input(to, inputs[0])?;
     }
     if 1 < row.failed {
-        print_input(inputs[1]);
+        print_input(to, inputs[1])?;
     }
     if 2 < row.failed {
-        print_input(inputs[2]);
+        print_input(to, inputs[2])?;
     }
+    Ok(())
 }
 
 // The row's line and, where it fails, the first inputs that fail. The answer is how many rows fail: this one, or none.
-pub fn print_row(name: &[u8], row: Row) -> u64 {
-    print(name);
+pub fn print_row(to: &impl Print, name: &[u8], row: Row) -> io::Result<u64> {
+    to.write_all(name)?;
     if passes(row) {
-        print(b"pass     ");
+        to.write_all(b"pass     ")?;
     } else {
-        print(b"fail     ");
+        to.write_all(b"fail     ")?;
     }
-    io::print_decimal(STDOUT_FILENO, row.tried as u64);
-    print(b"\n");
-    print_inputs(row);
+    let tried = row.tried;
+    println!(to; "{tried}")?;
+    print_inputs(to, row)?;
     if passes(row) {
-        return 0;
+        return Ok(0);
     }
-    1
+    Ok(1)
 }
 
-pub fn print_verdict(failing: u64) {
+pub fn print_verdict(to: &impl Print, failing: u64) -> io::Result<()> {
     if failing == 0 {
-        print(b"all rows pass\n");
-        return;
+        return to.write_all(b"all rows pass\n");
     }
-    io::print_decimal(STDOUT_FILENO, failing);
-    print(b" rows fail\n");
+    println!(to; "{failing} rows fail")
 }

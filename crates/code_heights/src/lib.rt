@@ -1,4 +1,6 @@
 // The height of a code, from the bytes of a whole block. What is promised of every shape and of every code stands beside it.
+#![tactic(auto)]
+
 ghost use Rattle.std.specs.Prelude.{◌≡◌, length};
 ghost use Rattle.shape_heights.specs.Heights.{height_of};
 ghost use Rattle.code_bytes.specs.Bytes.{byte_at, block_length};

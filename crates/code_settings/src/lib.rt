@@ -1,4 +1,6 @@
 // The settings of a code, from the bytes of a whole block.
+#![tactic(auto)]
+
 ghost use Rattle.std.specs.Prelude.{◌≡◌, length};
 ghost use Rattle.settings.specs.Settings.{fade_of};
 ghost use Rattle.code_bytes.specs.Bytes.{byte_at, block_length, envelope_first, lfo_first, fade_byte};

@@ -1,4 +1,6 @@
 // The shape of a code, from the bytes of a whole block.
+#![tactic(auto)]
+
 ghost use Rattle.std.specs.Prelude.{◌≡◌, length};
 ghost use Rattle.code_bytes.specs.Bytes.{byte_at, block_length};
 ghost use Rattle.code_shapes.specs.Shapes.{shape_of};

@@ -1,4 +1,6 @@
 // The strip of a code: heights of its shape from the left edge to the right, by the loop of its family.
+#![tactic(auto)]
+
 ghost use Rattle.std.specs.Prelude.{◌≡◌, ◌≤◌, length};
 ghost use Rattle.strip.specs.Strip.{filled_of, step_sum};
 ghost use Rattle.code_bytes.specs.Bytes.{byte_at, block_length, lfo_first};

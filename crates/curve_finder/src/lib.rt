@@ -1,4 +1,6 @@
 // A sustain-curve byte for a wanted end: all 256 are tried, from 0 upward, until one ends the sustain near the wanted level.
+#![tactic(auto)]
+
 ghost use Rattle.std.specs.Prelude.{◌≡◌, true};
 ghost use Rattle.level.specs.Level.{is_level};
 ghost use Rattle.curve_finder.specs.Promises.{Near, EndsNear, CurveAnswered, Tells};

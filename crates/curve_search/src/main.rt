@@ -1,49 +1,54 @@
 // Prints a curve byte for a wanted end: the arguments are a sustain byte and the wanted level, in decimal. Of anything else it prints `refused`.
+#![tactic(auto)]
+
 use curve_finder::curve_for_end;
 use curve_lines::put_curve;
 use decimal_reading::{Number, read_number};
 use level_reading::{LevelRead, read_level};
-use libc::STDOUT_FILENO;
+use program_input::argument;
+use std::env::Env;
+use std::io;
 
-fn refuse() {
-    io::write_all(STDOUT_FILENO, b"refused\n");
+fn refuse(to: &impl Print) -> io::Result<()> {
+    to.write_all(b"refused\n")
 }
 
-fn print_first(text: &[u8], n: usize) {
+fn print_first(to: &impl Print, text: &[u8], n: usize) -> io::Result<()> {
     if n < text.len() {
-        io::write_all(STDOUT_FILENO, &text[..n]);
+        to.write_all(&text[..n])?;
     }
+    Ok(())
 }
 
-fn print_curve(sustain: u8, wanted: f32) {
+fn print_curve(to: &impl Print, sustain: u8, wanted: f32) -> io::Result<()> {
     let mut text = [0u8; 128];
     let n = put_curve(&mut text, 0, sustain, curve_for_end(sustain, wanted));
-    print_first(&text, n);
+    print_first(to, &text, n)
 }
 
 // The level is the second argument.
-fn search(sustain: u8) {
+fn search(rt: &(impl Env + Print), sustain: u8) -> io::Result<()> {
     let mut text = [0u8; 256];
-    let n = os::arg(2, &mut text);
+    let n = argument(rt, 2, &mut text);
     let read = read_level(&text[..n]);
     match read {
-        LevelRead::Level(wanted) => print_curve(sustain, wanted),
-        LevelRead::NotALevel => refuse(),
+        LevelRead::Level(wanted) => print_curve(rt, sustain, wanted),
+        LevelRead::NotALevel => refuse(rt),
     }
 }
 
-fn main() {
+fn main(rt: HostRuntime) -> io::Result<()> {
     let mut text = [0u8; 16];
-    let n = os::arg(1, &mut text);
+    let n = argument(&rt, 1, &mut text);
     let read = read_number(&text[..n]);
     match read {
         Number::Value(sustain) => {
             if sustain < 256 {
-                search(sustain as u8);
+                search(&rt, sustain as u8)
             } else {
-                refuse();
+                refuse(&rt)
             }
         }
-        Number::NotANumber => refuse(),
+        Number::NotANumber => refuse(&rt),
     }
 }

@@ -3,20 +3,19 @@
 -- four more. So each stretch is one computed test of the analyser, against 128 * 2 ^ -24. Assumes nothing.
 use mathlib.Core.Path.{◌≡◌}
 use mathlib.Core.Bool.{Bool, true, false, not, cond}
-use Prim.Native.Nat.{◌-◌, ◌^◌}
-use lib.IntN.{pos, negsuc}
+use lib.IntN.{pos}
 use lib.Dec.{T, lit<, lit≤}
 use lib.Ieee.{Float, binary32, of_bits, fits, le, lt}
 use lib.Ieee.Fits.{add-fits, mul-fits}
 use lib.Ieee.Scale.{finite}
-use Rattle.exact.specs.Fraction.{Fraction, Defined, ratio, whole, ltℚ, if_below}
+use Rattle.exact.specs.Fraction.{Fraction, ratio, whole, ltℚ, if_below}
 use Rattle.exact.specs.Value.{value}
 use Rattle.exact.specs.Binary32.{zero₃₂, one₃₂}
 use Rattle.exact.proofs.Defined.{value_defined, choice_is}
 use Rattle.exact.proofs.Order.{le_value, lt_value, lt_at_most, nlt_at_most}
-use Rattle.rounding.proofs.Analyser.{Bound, Expr, var, constant, plus, minus, times, Approximates, analyse, plain, eval_float, eval_exact}
+use Rattle.rounding.proofs.Analyser.{Approximates, plain, eval_float, eval_exact}
 use Rattle.rounding.proofs.Soundness.{plainly}
-use Rattle.rounding.proofs.Inputs.{range, two, two_inputs, three, three_inputs, covers, relax, concludes, concluded, result}
+use Rattle.rounding.proofs.Inputs.{two, two_inputs, three, three_inputs, relax, concluded, result}
 use Rattle.curve.specs.Curve.{position_of, drawn_of, Drawn}
 use Rattle.curve.proofs.Positions.{Level, position_level}
 use Rattle.curve.proofs.Clamped.{drawn_near}
@@ -27,37 +26,8 @@ use Rattle.envelope.specs.Formula.{divide_of, bent_of, attack_of, decay_of, sust
 use Rattle.envelope.specs.Exact.{divideℚ, bentℚ, attackℚ, decayℚ, sustainℚ, releaseℚ, envelope_levelℚ, envelope_heightℚ}
 use Rattle.envelope.proofs.DivideError.{End, end_finite, Stretch, divide_bound, divide_near, divide_fits}
 use Rattle.envelope.proofs.BendError.{bent_bound, bent_near, bent_fits}
+use Rattle.envelope.proofs.Blends.{level_bound, attack_ok, decay, decay_ok, sustain, sustain_ok, release, release_ok}
 use Rattle.envelope.proofs.Ends.{level_end, zero_end, one_end, first_end, second_end, third_end}
-
--- ---- A LEVEL, from -1 to 2 as intervals see it, off by at most 1 / 131,072
-level_bound : Bound
-level_bound = record { lo = negsuc (2 ^ 149 - 1); hi = pos (2 ^ 150); err = 2 ^ 132 }
-
--- a bend is one; and the blends of two levels are, as expressions
-attack_ok : T (covers bent_bound level_bound)
-unfolding covers bent_bound level_bound
-attack_ok = tt
-
-decay : Expr
-decay = plus (constant one₃₂) (times (minus (var 0) (constant one₃₂)) (var 1))
-
-decay_ok : T (concludes binary32 (two unit bent_bound) decay level_bound)
-unfolding concludes covers analyse decay unit bent_bound level_bound range two of_bits
-decay_ok = tt
-
-sustain : Expr
-sustain = plus (var 0) (times (minus (var 1) (var 0)) (var 2))
-
-sustain_ok : T (concludes binary32 (three unit unit divide_bound) sustain level_bound)
-unfolding concludes covers analyse sustain unit divide_bound level_bound range three of_bits
-sustain_ok = tt
-
-release : Expr
-release = times (var 0) (minus (constant one₃₂) (var 1))
-
-release_ok : T (concludes binary32 (two unit bent_bound) release level_bound)
-unfolding concludes covers analyse release unit bent_bound level_bound range two of_bits
-release_ok = tt
 
 -- ---- THE STRETCHES, at a position that lies in them
 -- a float of binary32 within the bound
@@ -157,7 +127,3 @@ envelope_drawn e r t f =
     let p = position_of t in
     let n = level_near e p r (position_level t f) in
     drawn_near (envelope_level_of e p) (envelope_levelℚ e (value p)) 1 131072 n.holds (result binary32 _ _ level_bound 1 131072 (lit< tt) n.near (lit≤ tt))
-
--- no exact height divides by zero
-pub height_defined : (e : Envelope) → EnvelopeRange e → (t : Float) → T (fits binary32 t) → Defined (envelope_heightℚ e t)
-height_defined e r t f = (envelope_drawn e r t f).near.right

@@ -2,5 +2,7 @@
 pub mod DivideError
 pub mod BendError
 pub mod Ends
+pub mod Blends
 pub mod Distance
+pub mod Defined
 pub mod OneFormula

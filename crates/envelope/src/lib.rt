@@ -1,4 +1,6 @@
 // An envelope's height: attack, decay, sustain and release, each a stretch between two ends.
+#![tactic(auto)]
+
 ghost use Rattle.std.specs.Prelude.{◌≡◌};
 ghost use Rattle.envelope.specs.Formula.{divide_of, bent_of, attack_of, decay_of, sustain_of, release_of, of_stretch, envelope_level_of, envelope_height_of};
 

@@ -1,4 +1,6 @@
 // The settings that a program's bytes give an envelope.
+#![tactic(auto)]
+
 ghost use Rattle.std.specs.Prelude.{◌≡◌};
 ghost use Rattle.envelope_settings.specs.Formula.{sustain_end_of, envelope_of};
 

@@ -1,4 +1,6 @@
 // 2 to the power of an f32: a NaN gives a NaN, and every other x is clamped first.
+#![tactic(auto)]
+
 ghost use Rattle.std.specs.Prelude.{◌≡◌};
 ghost use Rattle.series.specs.Horner.{horner};
 ghost use Rattle.exp2.specs.Formula.{exp2_coefficients, exp2_of};

@@ -17,7 +17,7 @@ use Rattle.exact.proofs.Parts.{num⁺, num⁻, part⁺, part⁻, scale⁺, scale
 use Rattle.exact.proofs.Defined.{value_defined, choice_is}
 use Rattle.exact.proofs.Order.{≤ℚ-parts, ltℚ_parts, equal_within, equal_refl, lt_value, le_value}
 use Rattle.rounding.proofs.Quanta.{quanta_value}
-use Rattle.rounding.proofs.Analyser.{Bound, Expr, var, quotient, Approximates, Lower, Upper, Facts, eval_float, eval_exact, analyse, certified}
+use Rattle.rounding.proofs.Analyser.{Approximates, Lower, Upper, Facts, eval_float, eval_exact}
 use Rattle.rounding.proofs.Inputs.{range, two, two_inputs, bounded}
 use Rattle.curve.specs.Curve.{position_of, drawn_of, Drawn}
 use Rattle.curve.proofs.Positions.{Level, position_level, level_finite}
@@ -27,17 +27,7 @@ use Rattle.settings.proofs.Ranges.{FadeRange}
 use Rattle.fade.specs.Formula.{fade_level_of, fade_height_of}
 use Rattle.fade.specs.Exact.{fadeℚ, fade_heightℚ}
 use Rattle.curve.proofs.LevelInput.{unit, level_input}
-
--- ---- the rise as an expression: the end is at least one quantum, and the quotient lies from 0 to 1
-rise : Expr
-rise = quotient (pos 0) (pos (2 ^ 149)) (var 0) (var 1)
-
-ends : Bound
-ends = record { lo = pos 1; hi = pos (2 ^ 149); err = 0 }
-
-rise_ok : T (certified binary32 (two unit ends) rise 1 262144)
-unfolding certified analyse rise ends unit range two of_bits
-rise_ok = tt
+use Rattle.fade.proofs.Rise.{rise, ends, rise_ok}
 
 -- ---- 0 ≤ P < E: then E is at least one quantum, and P / E lies from 0 to 1
 least_end : (P N D Q M E p n U : ℕ) → 0 < U → N * 1 ≤ P * 1 → P * E + M * D < Q * D + N * E → Q * U + n * E ≡ M * U + p * E → 1 * E + M * U ≤ Q * U + 0 * E

@@ -1,4 +1,6 @@
 // The fade of an LFO: a straight rise, then full depth.
+#![tactic(auto)]
+
 ghost use Rattle.std.specs.Prelude.{◌≡◌};
 ghost use Rattle.fade.specs.Formula.{fade_level_of, fade_height_of};
 

@@ -1,4 +1,6 @@
 // The response of a filter over three octaves to either side of its corner, in decibels from -48 to 12.
+#![tactic(auto)]
+
 ghost use Rattle.std.specs.Prelude.{◌≡◌};
 ghost use Rattle.filter.specs.Formula.{mirrored_of, octaves_of, squared_of, log_of, distance_of, peak_of, filter_level_of, filter_height_of};
 

@@ -1,4 +1,6 @@
 // The arpeggiator's gates.
+#![tactic(auto)]
+
 ghost use Rattle.std.specs.Prelude.{◌≡◌};
 ghost use Rattle.gates.specs.Gates.{gate_of, gates_of};
 

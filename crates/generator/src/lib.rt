@@ -1,4 +1,6 @@
 // A generator: a shape and what its horizontal measures, with its marks, its rest level, its scale and its anchor. Its heights are shape_heights'.
+#![tactic(auto)]
+
 ghost use Rattle.std.specs.Prelude.{◌≡◌};
 ghost use Rattle.generator.specs.Generator.{scale_number, scale_value, rest_of, anchored_of, marks_of};
 

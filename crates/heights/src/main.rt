@@ -1,11 +1,15 @@
 // Prints a strip as text, an envelope's with the caption of each sample: the arguments are a generator's code, how many samples, and the turns of the sampled shapes, and the block is on standard input. What is refused prints one line, `refused` and the refusal's number.
+#![tactic(auto)]
+
 ghost use Rattle.std.specs.Prelude.{◌≡◌, ◌≤◌, length};
 
 use block_strip::StripAnswer;
 use decimal_reading::read_at_most;
-use libc::{STDIN_FILENO, STDOUT_FILENO};
+use program_input::read_full;
 use refusals::{Refusal, refusal_number};
 use rows::put_rows;
+use std::env::Env;
+use std::io;
 
 // Room for one sample more than the longest strip has, for their captions, and for the rows of that. The contracts give the lengths only, which lending them as slices asks for.
 fn samples() -> [f32; 4097]
@@ -26,66 +30,82 @@ fn page() -> [u8; 210000]
     [0; 210000]
 }
 
-fn refuse(r: Refusal) {
-    io::write_all(STDOUT_FILENO, b"refused ");
-    io::print_decimal(STDOUT_FILENO, refusal_number(r) as u64);
-    io::write_all(STDOUT_FILENO, b"\n");
+fn refuse(to: &impl Print, r: Refusal) -> io::Result<()> {
+    let number = refusal_number(r);
+    println!(to; "refused {number}")
 }
 
 // Argument i as a number, and `most` where it is a larger one or none.
-fn argument(i: usize, most: u16) -> u16
+fn argument(env: &impl Env, i: usize, most: u16) -> u16
     ensures { result ≤ most }
 {
     let mut text = [0u8; 16];
-    let n = os::arg(i, &mut text);
+    let n = program_input::argument(env, i, &mut text);
     read_at_most(&text[..n], most)
 }
 
-fn print_first(text: &[u8], n: usize) {
+fn print_first(to: &impl Print, text: &[u8], n: usize) -> io::Result<()> {
     if n < text.len() {
-        io::write_all(STDOUT_FILENO, &text[..n]);
+        to.write_all(&text[..n])?;
     }
+    Ok(())
 }
 
-fn print_rows(heights: &[f32], captions: &[u8]) {
+fn print_rows(to: &impl Print, heights: &[f32], captions: &[u8]) -> io::Result<()> {
     let mut text = page();
     let n = put_rows(&mut text, 0, heights, captions);
-    print_first(&text, n);
+    print_first(to, &text, n)
 }
 
 // A strip that is filled, with the captions of its samples: what would refuse them has not refused the strip.
-fn print_captioned(block: &[u8], code: u32, heights: &[f32], captions: &mut [u8]) {
+fn print_captioned(
+    to: &impl Print,
+    block: &[u8],
+    code: u32,
+    heights: &[f32],
+    captions: &mut [u8],
+) -> io::Result<()> {
     block_captions::captions(block, code, captions);
-    print_rows(heights, captions);
+    print_rows(to, heights, captions)
 }
 
 // A strip of n samples, in the first n places of `heights`, and their captions in those of `captions`.
 fn print_strip(
+    to: &impl Print,
     block: &[u8],
     code: u32,
     turns: u32,
     heights: &mut [f32],
     captions: &mut [u8],
     n: usize,
-)
-    requires { (n ≤ length heights.old) × (n ≤ length captions.old) }
+) -> io::Result<()>
+    requires heights { n ≤ length heights.old }
+    requires captions { n ≤ length captions.old }
 {
     let answer = block_strip_turns::strip_once_turns(block, code, turns, &mut heights[..n]);
     match answer {
         StripAnswer::Filled(_) => {
-            print_captioned(block, code, &heights[..n], &mut captions[..n]);
+            print_captioned(to, block, code, &heights[..n], &mut captions[..n])
         }
-        StripAnswer::Refused(r) => refuse(r),
+        StripAnswer::Refused(r) => refuse(to, r),
     }
 }
 
-fn main() {
-    let code = argument(1, 255) as u32;
-    let n = argument(2, 4097) as usize;
-    let turns = argument(3, 255) as u32;
+fn main(rt: HostRuntime) -> io::Result<()> {
+    let code = argument(&rt, 1, 255) as u32;
+    let n = argument(&rt, 2, 4097) as usize;
+    let turns = argument(&rt, 3, 255) as u32;
     let mut block = [0u8; 243];
-    let got = io::read_full(STDIN_FILENO, &mut block);
+    let got = read_full(&mut rt.stdin(), &mut block)?;
     let mut heights = samples();
     let mut captions = segments();
-    print_strip(&block[..got], code, turns, &mut heights, &mut captions, n);
+    print_strip(
+        &rt,
+        &block[..got],
+        code,
+        turns,
+        &mut heights,
+        &mut captions,
+        n,
+    )
 }

@@ -1,4 +1,6 @@
 // The height of an LFO: its shape at the phase, or the slew walk there.
+#![tactic(auto)]
+
 ghost use Rattle.std.specs.Prelude.{◌≡◌};
 ghost use Rattle.exact.specs.Binary32.{◌⊗◌};
 ghost use Rattle.curve.specs.Curve.{clamp_unit_of};

@@ -20,7 +20,7 @@ use Rattle.exact.proofs.Parts.{num⁺, num⁻, sum_parts}
 use Rattle.exact.proofs.Order.{≤ℚ-parts, parts-≤ℚ, ≤ℚ-trans, equal_refl, equal_sym, equal_at_most}
 use Rattle.exact.proofs.Inequality.{minus_at_most, at_least_minus, lt_le, nlt_le, scale_le}
 use Rattle.rounding.proofs.Bounds.{lower_at, upper_at}
-use Rattle.rounding.proofs.Analyser.{Bound, Expr, var, constant, plus, minus, times, truncated, enclosed, Approximates, Facts, plain, eval_float, eval_exact, analyse, Lower, Upper}
+use Rattle.rounding.proofs.Analyser.{Bound, Expr, var, constant, plus, minus, times, truncated, Approximates, Facts, plain, eval_float, eval_exact, analyse, Lower, Upper}
 use Rattle.rounding.proofs.Soundness.{plainly}
 use Rattle.rounding.proofs.Inputs.{one, three, one_input, three_inputs, exact_input, covers, relax, concludes, concluded}
 use Rattle.rounding.proofs.Fract.{floor_negative}
@@ -35,17 +35,10 @@ use Rattle.lfo_shapes.specs.Exact.{wrapℚ, remainder, sampleℚ, triangleℚ, s
 use Rattle.lfo_shapes.proofs.Earlier.{Previous, regular, tie, previous}
 use Rattle.lfo_shapes.proofs.Wrapped.{wrap_turned}
 use Rattle.lfo_shapes.proofs.Shapes.{triangle_exact, square_exact, hold_is, hold_exact, sample_level}
+use Rattle.lfo_shapes.proofs.Mix.{unit, blend_bound, inside, mix, blend, blend_ok}
 use Rattle.lfo_shapes.proofs.Blend.{Unit₀₁, level_unit, blend_unit}
 
 -- ---- bounds, in quanta, 2 ^ 149 of which are 1
--- exact, from 0 to 1
-unit : Bound
-unit = record { lo = pos 0; hi = pos (2 ^ 149); err = 0 }
-
--- of two roundings and a product: 2 ^ -22
-unfoldable pub blend_bound : Bound
-blend_bound = record { lo = pos 0; hi = pos (2 ^ 149); err = 2 ^ 127 }
-
 -- of every shape: 27 * 2 ^ -24 beyond 0 and 1, and 37 * 2 ^ -24 off
 unfoldable pub shape_bound : Bound
 shape_bound = record { lo = negsuc (27 * 2 ^ 125 - 1); hi = pos (2 ^ 149 + 27 * 2 ^ 125); err = 37 * 2 ^ 125 }
@@ -155,20 +148,6 @@ ramp_down_bounded p f h =
     concluded binary32 (one (wrap_of p)) (one W) (one unit) (one_input binary32 (wrap_of p) W unit (exactly (wrap_of p) W w.holds w.is (turned_unit w))) fall (plainly binary32 (one W) fall tt) blend_bound fall_ok
 
 -- ---- GLIDE
-inside : Expr → Expr
-inside e = enclosed (pos 0) (pos (2 ^ 149)) e
-
-mix : Expr
-mix = plus (var 0) (times (minus (var 1) (var 0)) (var 2))
-
-blend : Expr
-unfolding inside mix
-blend = inside mix
-
-blend_ok : T (concludes binary32 (three unit unit unit) blend blend_bound)
-unfolding concludes analyse covers blend inside mix unit blend_bound three of_bits
-blend_ok = tt
-
 low : (R : Fraction) → Unit₀₁ R → Lower (2 ^ 149) R (pos 0)
 low R g = lower_at (2 ^ 149) R 0 1 0 (lit< tt) (lit≤ tt) g.from
 

@@ -6,6 +6,8 @@ pub mod Earlier
 pub mod Wrapped
 pub mod Shapes
 pub mod Blend
+pub mod Mix
 pub mod Bounded
 pub mod DrawnPhase
+pub mod Wave
 pub mod ShapeError

@@ -11,13 +11,13 @@ use lib.Ieee.{Float, binary32, of_bits, fits}
 use lib.Ieee.Fits.{add-fits, sub-fits}
 use Rattle.exact.specs.Fraction.{Fraction, ratio, negℚ, clamp_unitℚ, ◌+ℚ◌, ◌-ℚ◌, ◌≤ℚ◌}
 use Rattle.exact.specs.Value.{value, Within}
-use Rattle.exact.specs.Binary32.{◌⊗◌, half₃₂}
+use Rattle.exact.specs.Binary32.{◌⊗◌}
 use Rattle.exact.proofs.Parts.{num⁺, num⁻}
 use Rattle.exact.proofs.Order.{≤ℚ-trans, parts-≤ℚ, sum_raise_left}
 use Rattle.exact.proofs.Inequality.{minus_at_most}
-use Rattle.rounding.proofs.Analyser.{Expr, var, constant, plus, times, Approximates, Lower, Upper, plain, eval_float, eval_exact, analyse}
+use Rattle.rounding.proofs.Analyser.{Approximates, Lower, Upper, plain, eval_float, eval_exact}
 use Rattle.rounding.proofs.Soundness.{plainly}
-use Rattle.rounding.proofs.Inputs.{one, one_input, covers, concludes, concluded, relax, result}
+use Rattle.rounding.proofs.Inputs.{one, one_input, concluded, relax, result}
 use Rattle.curve.specs.Curve.{position_of, drawn_of, Drawn}
 use Rattle.curve.proofs.Clamped.{drawn_near}
 use Rattle.sine.specs.Formula.{sin_turns_of}
@@ -32,7 +32,9 @@ use Rattle.settings.specs.Settings.{turns_number, turns_of}
 use Rattle.lfo_shapes.specs.Formula.{sine_of, ramp_up_of, ramp_down_of, glide_of, shape_at_of}
 use Rattle.lfo_shapes.specs.Exact.{sineℚ, ramp_downℚ, glideℚ, shapeℚ}
 use Rattle.lfo_shapes.proofs.Wrapped.{wrap_fits}
-use Rattle.lfo_shapes.proofs.Bounded.{shape_bound, blend_bound, blend_covers, triangle_fits, square_fits, sampled_fits, triangle_bounded, square_bounded, ramp_up_bounded, ramp_down_bounded, hold_bounded, glide_bounded}
+use Rattle.lfo_shapes.proofs.Mix.{blend_bound}
+use Rattle.lfo_shapes.proofs.Bounded.{shape_bound, blend_covers, triangle_fits, square_fits, sampled_fits, triangle_bounded, square_bounded, ramp_up_bounded, ramp_down_bounded, hold_bounded, glide_bounded}
+use Rattle.lfo_shapes.proofs.Wave.{wave, wave_ok}
 use Rattle.lfo_shapes.proofs.DrawnPhase.{Spanned, position_spanned, spanned_phase}
 
 -- what a shape asks of a phase besides: of the glide's at most 2 ^ 24, since above that p ⊖ 1 may be p
@@ -46,13 +48,6 @@ Reached SampleAndHold p = Unit {0}
 Reached SampleAndGlide p = value p ≤ℚ ratio 16777216 1
 
 -- ---- SINE, of what `sin_turns` gives
-wave : Expr
-wave = plus (constant half₃₂) (times (constant half₃₂) (var 0))
-
-wave_ok : T (concludes binary32 (one sine_bound) wave shape_bound)
-unfolding concludes analyse covers wave sine_bound shape_bound one of_bits
-wave_ok = tt
-
 pub sine_bounded : (p : Float) → T (fits binary32 p) → Phase p → Approximates binary32 (sine_of p) (sineℚ (value p)) shape_bound
 unfolding sine_of wave one eval_float eval_exact plain value of_bits
 sine_bounded p f h =

@@ -1,4 +1,6 @@
 // The LFO's shapes, by the phase: a number of cycles.
+#![tactic(auto)]
+
 ghost use Rattle.std.specs.Prelude.{◌≡◌};
 ghost use Rattle.lfo_shapes.specs.Formula.{wrap_of, sample_of, sampled_of, sine_of, triangle_of, square_of, ramp_down_of, glide_of, shape_at_of};
 

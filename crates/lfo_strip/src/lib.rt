@@ -1,4 +1,6 @@
 // The strips of an LFO. The caller has tested the length. A loop answers the sum of the steps, which only an LFO with slew takes.
+#![tactic(auto)]
+
 ghost use Rattle.std.specs.Prelude.{◌≡◌, true, false, ◌≤◌, length};
 ghost use Rattle.std.specs.Float.Ieee.{le};
 ghost use Rattle.exact.specs.Binary32.{zero₃₂};
@@ -11,8 +13,8 @@ use strip::{last_of, sample_position};
 
 // An LFO without slew, and one with.
 pub fn fill_unslewed(l: Lfo, out: &mut [f32]) -> u32
-    requires fact { le l.slew zero₃₂ ≡ true }
-    requires in_bounds { (2 ≤ length out.old) × (length out.old ≤ 4096) }
+    requires unslewed { le l.slew zero₃₂ ≡ true }
+    requires fits { (2 ≤ length out.old) × (length out.old ≤ 4096) }
     ensures { (result ≡ step_sum (Shape.Lfo l) (length out.old) (length out.old)) × (out.new ≡ filled_of (Shape.Lfo l) (length out.old) (length out.old) out.old) }
 {
     let n = out.len();
@@ -26,8 +28,8 @@ pub fn fill_unslewed(l: Lfo, out: &mut [f32]) -> u32
 }
 
 fn fill_slewed(l: Lfo, out: &mut [f32]) -> u32
-    requires fact { le l.slew zero₃₂ ≡ false }
-    requires in_bounds { (2 ≤ length out.old) × (length out.old ≤ 4096) }
+    requires slewed { le l.slew zero₃₂ ≡ false }
+    requires fits { (2 ≤ length out.old) × (length out.old ≤ 4096) }
     ensures { (result ≡ step_sum (Shape.Lfo l) (length out.old) (length out.old)) × (out.new ≡ filled_of (Shape.Lfo l) (length out.old) (length out.old) out.old) }
 {
     let count = out.len();

@@ -1,4 +1,6 @@
 // Marks: where along the horizontal of a picture something happens, and what. A record of at most eight, the marks of each family, and the numbers of their kinds.
+#![tactic(auto)]
+
 ghost use Rattle.std.specs.Prelude.{◌≡◌};
 ghost use Rattle.marks.specs.Marks.{segment_number, kind_number, no_marks, mark_of, pushed, pushed_all, stored, cycles_of, envelope_marks, fade_marks, pulse_marks, oscillator_marks};
 

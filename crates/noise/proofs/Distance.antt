@@ -5,9 +5,9 @@ use lib.Ieee.Fits.{add-fits}
 use Rattle.exact.specs.Fraction.{ratio}
 use Rattle.exact.specs.Value.{value, Within}
 use Rattle.exact.specs.Binary32.{half₃₂}
-use Rattle.rounding.proofs.Analyser.{Expr, var, constant, plus, minus, times, plain, eval_float, eval_exact, analyse, certified}
+use Rattle.rounding.proofs.Analyser.{plain, eval_float, eval_exact}
 use Rattle.rounding.proofs.Soundness.{plainly}
-use Rattle.rounding.proofs.Inputs.{range, two, two_inputs, bounded}
+use Rattle.rounding.proofs.Inputs.{two, two_inputs, bounded}
 use Rattle.curve.specs.Curve.{position_of, drawn_of, Drawn}
 use Rattle.curve.proofs.Positions.{Level, position_level}
 use Rattle.curve.proofs.Clamped.{drawn_near}
@@ -17,14 +17,7 @@ use Rattle.noise.specs.Formula.{noise_at_of, noise_level_of, noise_height_of}
 use Rattle.noise.specs.Exact.{noiseℚ, noise_heightℚ}
 use Rattle.curve.proofs.LevelInput.{unit, level_input}
 use Rattle.noise.proofs.Scatter.{noise_input}
-
--- the inputs are the scatter and the level
-scaled : Expr
-scaled = plus (constant half₃₂) (times (minus (var 0) (constant half₃₂)) (var 1))
-
-scaled_ok : T (certified binary32 (two unit unit) scaled 1 262144)
-unfolding certified analyse scaled unit range two of_bits
-scaled_ok = tt
+use Rattle.noise.proofs.Scaled.{scaled, scaled_ok}
 
 pub noise_level_near : (n : Noise) → NoiseRange n → (x : Float) → Level x → Within (value (noise_level_of n x)) (noiseℚ (value n.level) (value (noise_at_of x))) (ratio 1 262144)
 unfolding noise_level_of noiseℚ scaled two eval_float eval_exact plain value of_bits

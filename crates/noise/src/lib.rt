@@ -1,4 +1,6 @@
 // The noise: a fixed scatter about the middle.
+#![tactic(auto)]
+
 ghost use Rattle.std.specs.Prelude.{◌≡◌};
 ghost use Rattle.noise.specs.Formula.{noise_at_of, noise_level_of, noise_height_of};
 

@@ -2,19 +2,17 @@
 -- choice of the waves that are on. Assumes nothing.
 use mathlib.Core.Path.{◌≡◌, refl, subst₂}
 use mathlib.Core.Bool.{Bool, true, false, cond}
-use Prim.Native.Nat.{◌-◌, ◌^◌}
-use lib.IntN.{pos, negsuc}
 use lib.Dec.{T, eqb, lit<}
-use lib.Ieee.{Float, binary32, of_bits, of_int, neg, mul, sub, lt, fits}
+use lib.Ieee.{Float, binary32, of_bits, of_int, neg, lt, fits}
 use lib.Ieee.Fits.{cond-fits, add-fits}
 use lib.Ieee.Bits.{of_bits-fits}
 use Rattle.exact.specs.Fraction.{Fraction, ratio}
 use Rattle.exact.specs.Value.{value, Within}
-use Rattle.exact.specs.Binary32.{bits, zero₃₂, half₃₂, one₃₂}
-use Rattle.rounding.proofs.Analyser.{Bound, Expr, var, constant, plus, minus, times, over, Approximates, plain, eval_float, eval_exact, analyse, certified, constant_of}
+use Rattle.exact.specs.Binary32.{half₃₂, one₃₂}
+use Rattle.rounding.proofs.Analyser.{Approximates, plain, eval_float, eval_exact, constant_of}
 use Rattle.rounding.proofs.Soundness.{plainly}
 use Rattle.rounding.proofs.StepLeaves.{constant_sound}
-use Rattle.rounding.proofs.Inputs.{range, one, one_input, three, three_inputs, covers, relax, concludes, concluded, bounded}
+use Rattle.rounding.proofs.Inputs.{one, one_input, three, three_inputs, covers, relax, concluded, bounded}
 use Rattle.curve.specs.Curve.{position_of, drawn_of, Drawn}
 use Rattle.curve.proofs.Positions.{Level, position_level}
 use Rattle.curve.proofs.Clamped.{drawn_near}
@@ -23,23 +21,10 @@ use Rattle.settings.proofs.Ranges.{OscillatorRange}
 use Rattle.oscillator.specs.Formula.{saw_of, pulse_of, added_of, sum_of, waves_of, oscillator_level_of, oscillator_height_of}
 use Rattle.oscillator.specs.Exact.{sawℚ, pulseℚ, addedℚ, sumℚ, oscillatorℚ, oscillator_heightℚ}
 use Rattle.curve.proofs.LevelInput.{unit, level_input}
+use Rattle.oscillator.proofs.WaveError.{wave, saw_expr, saw_ok}
+use Rattle.oscillator.proofs.Mean.{mean, mix, mix_ok}
 
--- ---- THE WAVES: both lie from -1 to 1
-wave : Bound
-wave = record { lo = negsuc (2 ^ 149 - 1); hi = pos (2 ^ 149); err = 2 ^ 126 }
-
--- the saw at its edges
-saw_edges : (saw_of zero₃₂ ≡ neg one₃₂) × (saw_of one₃₂ ≡ one₃₂)
-unfolding saw_of of_bits neg mul sub
-saw_edges = (refl, refl)
-
-saw_expr : Expr
-saw_expr = minus (times (var 0) (constant (bits 0x4000_0000))) (constant one₃₂)
-
-saw_ok : T (concludes binary32 (one unit) saw_expr wave)
-unfolding concludes analyse covers saw_expr wave unit range one of_bits
-saw_ok = tt
-
+-- ---- THE WAVES
 saw_input : (x : Float) → Level x → Approximates binary32 (saw_of x) (sawℚ (value x)) wave
 unfolding saw_of sawℚ saw_expr one eval_float eval_exact plain value of_bits
 saw_input x h =
@@ -52,24 +37,6 @@ pulse_input w x = go (lt x w)
     go : (b : Bool) → Approximates binary32 (cond b one₃₂ (neg one₃₂)) (pulseℚ b) wave
     go true = relax binary32 one₃₂ (value one₃₂) (constant_of binary32 one₃₂).bound wave (constant_sound binary32 one₃₂ tt) tt
     go false = relax binary32 (neg one₃₂) (value (neg one₃₂)) (constant_of binary32 (neg one₃₂)).bound wave (constant_sound binary32 (neg one₃₂) tt) tt
-
--- ---- THE MEAN OF THOSE THAT ARE ON: the inputs are the level, the saw and the pulse
-mean : Expr → Float → Expr
-mean sum count = plus (constant half₃₂) (over (times (times (constant half₃₂) (var 0)) sum) (constant count))
-
-mix : Bool → Bool → Expr
-unfolding mean
-mix false false = constant half₃₂
-mix true false = mean (plus (constant zero₃₂) (var 1)) one₃₂
-mix false true = mean (plus (constant zero₃₂) (var 2)) one₃₂
-mix true true = mean (plus (plus (constant zero₃₂) (var 1)) (var 2)) (bits 0x4000_0000)
-
-mix_ok : (s p : Bool) → T (certified binary32 (three unit wave wave) (mix s p) 1 262144)
-unfolding certified analyse mix mean unit wave range three of_bits
-mix_ok false false = tt
-mix_ok true false = tt
-mix_ok false true = tt
-mix_ok true true = tt
 
 mix_plain : (s p : Bool) → T (plain (mix s p))
 unfolding plain mix mean

@@ -1,4 +1,6 @@
 // One cycle of an oscillator: the mean of its saw and its pulse.
+#![tactic(auto)]
+
 ghost use Rattle.std.specs.Prelude.{◌≡◌};
 ghost use Rattle.oscillator.specs.Formula.{saw_of, pulse_of, added_of, sum_of, waves_of, oscillator_level_of, oscillator_height_of};
 

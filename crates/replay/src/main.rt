@@ -1,6 +1,8 @@
 // Replays a list of the reference's answers, which it reads from standard input: computes each again, and prints the list with the words that it
 // computed, beside each that differs the word expected, and how many it compared. reference/generator/list.rs says what the list's lines mean. Before it,
 // the numbers of what is refused and of what is not.
+#![tactic(auto)]
+
 mod limits;
 mod replay;
 mod report;
@@ -8,7 +10,8 @@ mod whole;
 
 ghost use Rattle.std.specs.Prelude.{◌≡◌, length};
 
-use libc::{STDIN_FILENO, STDOUT_FILENO};
+use program_input::read_full;
+use std::io;
 
 // Room for the list. The contract gives its length only, which lending it as a slice asks for.
 fn room() -> [u8; 524288]
@@ -17,13 +20,13 @@ fn room() -> [u8; 524288]
     [0; 524288]
 }
 
-fn main() {
+fn main(rt: HostRuntime) -> io::Result<()> {
     let mut text = room();
-    let n = io::read_full(STDIN_FILENO, &mut text);
+    let n = read_full(&mut rt.stdin(), &mut text)?;
     if n == 524288 {
-        io::write_all(STDOUT_FILENO, b"the list is too long\n");
-        return;
+        return rt.write_all(b"the list is too long\n");
     }
-    limits::print_refusals();
-    report::print_tally(replay::replay(&text[..n]));
+    limits::print_refusals(&rt)?;
+    let tally = replay::replay(&rt, &text[..n])?;
+    report::print_tally(&rt, tally)
 }

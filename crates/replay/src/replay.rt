@@ -5,6 +5,7 @@ use gates::arpeggiator_gates;
 use lists::at_most;
 use number_lines::{Line, MOST, end_line, is_blank, no_line, read_byte};
 use replay_answers::{Answer, built, of_gates, of_generator, of_taps};
+use std::io;
 use taps::{MAX_TAPS, Taps};
 
 // How many words of each kind were compared, how many of all differ, and how many the program could not answer.
@@ -54,7 +55,7 @@ const TAPS: u64 = 0xb0;
 
 // One more. A list holds fewer than 2^32 of anything.
 fn more(n: u32) -> u32 {
-    std::num::wrapping_add_u32(n, 1)
+    n.wrapping_add(1)
 }
 
 // What the crates answer there.
@@ -108,19 +109,19 @@ fn counted(tally: Tally, place: Place) -> Tally {
 }
 
 // The tally after a comparison. The computed word is printed and, where the two differ, the expected one.
-fn compared(tally: Tally, place: Place, expected: u32) -> Tally {
+fn compared(to: &impl Print, tally: Tally, place: Place, expected: u32) -> io::Result<Tally> {
     let mut next = counted(tally, place);
     let Answer::Word(computed) = answered(place) else {
-        report::print_unanswered(expected);
+        report::print_unanswered(to, expected)?;
         next.unanswered = more(next.unanswered);
-        return next;
+        return Ok(next);
     };
-    report::print_number(computed as u64);
+    report::print_number(to, computed as u64)?;
     if !agreeing(computed, expected) {
-        report::print_expected(expected);
+        report::print_expected(to, expected)?;
         next.different = more(next.different);
     }
-    next
+    Ok(next)
 }
 
 // The taps after a number of their line: four positions, four heights, and how many are used.
@@ -217,42 +218,42 @@ impl Reading {
     }
 
     // After a number.
-    fn number(self, value: u64) -> Reading {
+    fn number(self, to: &impl Print, value: u64) -> io::Result<Reading> {
         let mut next = self;
         let mut place = self.place;
         if tells(place) {
-            report::print_number(value);
+            report::print_number(to, value)?;
             place = told(place, value);
         } else if place.letter == b'H' && place.index == 0 {
-            report::print_number(value);
+            report::print_number(to, value)?;
             place.position = value;
         } else {
-            next.tally = compared(self.tally, place, low_word(value));
+            next.tally = compared(to, self.tally, place, low_word(value))?;
         }
         place.index = more(place.index);
         next.place = place;
-        next
+        Ok(next)
     }
 
     // After a line that is wrong, which the list has not: it counts as one number that is not answered.
-    fn wrong_line(self) -> Reading {
-        report::print_wrong_line();
+    fn wrong_line(self, to: &impl Print) -> io::Result<Reading> {
+        report::print_wrong_line(to)?;
         let mut next = self;
         let mut tally = self.tally;
         tally.unanswered = more(tally.unanswered);
         next.tally = tally;
-        next
+        Ok(next)
     }
 
     // After a line.
-    fn line(self, line: Line) -> Reading {
+    fn line(self, to: &impl Print, line: Line) -> io::Result<Reading> {
         if is_blank(line) {
-            return self;
+            return Ok(self);
         }
         if line.wrong {
-            return self.wrong_line();
+            return self.wrong_line(to);
         }
-        report::print_byte(line.letter);
+        report::print_byte(to, line.letter)?;
         let mut next = self;
         let mut place = self.place;
         place.letter = line.letter;
@@ -262,29 +263,29 @@ impl Reading {
         let count = at_most(line.count, MOST);
         let mut i: usize = 0;
         while i < count {
-            next = next.number(line.numbers[i]);
+            next = next.number(to, line.numbers[i])?;
             i += 1;
         }
-        report::print_byte(b'\n');
-        next
+        report::print_byte(to, b'\n')?;
+        Ok(next)
     }
 }
 
 // A last line with no end is a line too.
-pub fn replay(list: &[u8]) -> Tally {
+pub fn replay(to: &impl Print, list: &[u8]) -> io::Result<Tally> {
     let mut state = Reading::start();
     let mut line = no_line();
     let mut i = 0;
     while i < list.len() {
         let b = list[i];
         if b == b'\n' {
-            state = state.line(end_line(line));
+            state = state.line(to, end_line(line))?;
             line = no_line();
         } else {
             line = read_byte(line, b);
         }
         i += 1;
     }
-    state = state.line(end_line(line));
-    state.tally
+    state = state.line(to, end_line(line))?;
+    Ok(state.tally)
 }

@@ -1,4 +1,6 @@
 // The height of a shape, by the curve of its family.
+#![tactic(auto)]
+
 ghost use Rattle.std.specs.Prelude.{◌≡◌};
 ghost use Rattle.shape_heights.specs.Heights.{height_of};
 

@@ -1,4 +1,6 @@
 // The strip of a shape, by the loop of its family; an LFO with slew has a walk for each sample, or one along them all. The caller has tested the length.
+#![tactic(auto)]
+
 ghost use Rattle.std.specs.Prelude.{◌≡◌, true, ◌≤◌, length};
 ghost use Rattle.strip.specs.Strip.{filled_of, step_sum};
 ghost use Rattle.lfo_strip_once.specs.Once.{steps_once};
@@ -28,8 +30,8 @@ pub fn fill(shape: Shape, out: &mut [f32]) -> u32
 
 // One walk along all samples.
 pub fn fill_once(shape: Shape, out: &mut [f32]) -> u32
-    requires shape_value { goes_forward shape ≡ true }
-    requires in_bounds { (2 ≤ length out.old) × (length out.old ≤ 4096) }
+    requires shape_forward { goes_forward shape ≡ true }
+    requires fits { (2 ≤ length out.old) × (length out.old ≤ 4096) }
     ensures { (result ≡ steps_once shape (length out.old)) × (out.new ≡ filled_of shape (length out.old) (length out.old) out.old) }
 {
     match shape {

@@ -1,10 +1,14 @@
 // Reads a program's block from standard input and writes its page on standard output. The arguments are the number of turns of the sampled shapes, 6 or 8, and the name of the block's
 // file, if it has one. Two blocks are an older program and the program: the page holds one against the other. A third argument is then the name of the older block's file.
+#![tactic(auto)]
+
 ghost use Rattle.std.specs.Prelude.{◌≡◌, length};
 
 use block::BLOCK;
 use decimal_reading::read_at_most;
-use libc::{STDIN_FILENO, STDOUT_FILENO};
+use program_input::{argument, read_full};
+use std::env::Env;
+use std::io;
 
 // Room for the page, which has some 90,000 bytes, or 170,000 with an older program's curves. The contract gives its length only, which lending it as a slice asks for.
 fn buffer() -> [u8; 262144]
@@ -31,21 +35,21 @@ fn write_page(turns: u32, oldfile: &[u8], file: &[u8], blocks: &[u8], text: &mut
 }
 
 // The first argument as a number; 255, which is no number of turns, where it is a larger one or none.
-fn turns_argument() -> u32 {
+fn turns_argument(env: &impl Env) -> u32 {
     let mut word = [0u8; 16];
-    let n = os::arg(1, &mut word);
+    let n = argument(env, 1, &mut word);
     read_at_most(&word[..n], 255) as u32
 }
 
-fn main() {
-    let turns = turns_argument();
+fn main(rt: HostRuntime) -> io::Result<()> {
+    let turns = turns_argument(&rt);
     let mut blocks = [0u8; 485];
-    let n = io::read_full(STDIN_FILENO, &mut blocks);
+    let n = read_full(&mut rt.stdin(), &mut blocks)?;
     // a file's name has at most 255 bytes
     let mut file = [0u8; 256];
-    let named = os::arg(2, &mut file);
+    let named = argument(&rt, 2, &mut file);
     let mut oldfile = [0u8; 256];
-    let oldnamed = os::arg(3, &mut oldfile);
+    let oldnamed = argument(&rt, 3, &mut oldfile);
     let mut text = buffer();
     let end = write_page(
         turns,
@@ -55,15 +59,10 @@ fn main() {
         &mut text,
     );
     if end == 0 {
-        io::write_all(
-            STDOUT_FILENO,
-            b"a block has 242 bytes, and turns are 6 or 8\n",
-        );
-        return;
+        return rt.write_all(b"a block has 242 bytes, and turns are 6 or 8\n");
     }
     if end < 262144 {
-        io::write_all(STDOUT_FILENO, &text[..end]);
-        return;
+        return rt.write_all(&text[..end]);
     }
-    io::write_all(STDOUT_FILENO, b"the page is too long\n");
+    rt.write_all(b"the page is too long\n")
 }

@@ -1,5 +1,7 @@
 // A strip: a lent slice of heights, from the left edge of a curve to its right edge. Where its samples lie, and which lengths fit. The loops that fill one stand in the
 // crates above, one for each family, so that the family is matched once and not at every sample.
+#![tactic(auto)]
+
 ghost use Rattle.std.specs.Prelude.{◌≡◌, ◌-◌, ◌≤◌};
 ghost use Rattle.strip.specs.Strip.{part_of, length_fits};
 

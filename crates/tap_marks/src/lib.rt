@@ -1,4 +1,6 @@
 // What stands beside the curve of an impulse train: a mark at each tap, where it rests, what its horizontal measures, and whether its left edge is a moment.
+#![tactic(auto)]
+
 ghost use Rattle.std.specs.Prelude.{◌≡◌, true};
 ghost use Rattle.exact.specs.Binary32.{zero₃₂};
 ghost use Rattle.marks.specs.Marks.{stored};

@@ -2,9 +2,13 @@
 pub mod UsedTaps
 pub mod Width
 pub mod Maximum
+pub mod Larger
+pub mod OneComparison
 pub mod Raised
 pub mod Ranges
+pub mod OneTap
 pub mod EveryTaps
+pub mod Spike
 pub mod TapsError
 pub mod Examples
 pub mod Held

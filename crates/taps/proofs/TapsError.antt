@@ -20,9 +20,9 @@ use Rattle.rounding.proofs.UnitRoundoff.{sub_relative}
 use Rattle.exact.proofs.Lipschitz.{abs_within, abs_value, max_within}
 use Rattle.rounding.proofs.Bounds.{lower_at, upper_at}
 use Rattle.rounding.proofs.FloatBounds.{within_near}
-use Rattle.rounding.proofs.Analyser.{Bound, Expr, var, constant, minus, times, over, Approximates, plain, eval_float, eval_exact, analyse, certified}
+use Rattle.rounding.proofs.Analyser.{Approximates, plain, eval_float, eval_exact}
 use Rattle.rounding.proofs.Soundness.{plainly}
-use Rattle.rounding.proofs.Inputs.{range, two, two_inputs, bounded}
+use Rattle.rounding.proofs.Inputs.{two, two_inputs, bounded}
 use Rattle.math.specs.Formulas.{abs_of, max_of}
 use Rattle.curve.specs.Curve.{position_of, drawn_of, Drawn}
 use Rattle.curve.proofs.Positions.{Level, position_level}
@@ -33,6 +33,7 @@ use Rattle.taps.specs.Formula.{tap_width, used_of, at_of, tall_of, spike_of, tap
 use Rattle.taps.specs.Exact.{spikeℚ, tap_heightℚ, taps_levelℚ, taps_heightℚ}
 use Rattle.taps.proofs.Ranges.{TapsRange}
 use Rattle.taps.proofs.Maximum.{max_is}
+use Rattle.taps.proofs.Spike.{distance, spike, spike_ok}
 use Rattle.taps.proofs.EveryTaps.{level_number}
 
 -- ---- THE SIZE of a float
@@ -63,8 +64,6 @@ reached_finite (inf s) h = absurd h
 reached_finite (fin s m e) h = tt
 
 -- ---- THE DISTANCE: where its float is below the tapWidth it is at most 1 / 32, with an error of at most 2 ^ -29
-distance : Bound
-distance = record { lo = pos 0; hi = pos (2 ^ 144); err = 2 ^ 120 }
 
 -- n / d ≤ 1 / 64 + n / d / K
 at_most_twice : (n d K : ℕ) → 0 < d → 2 ≤ K → n * (64 * (K * d)) ≤ (1 * (K * d) + 1 * n * 64) * d → n * 32 ≤ d
@@ -106,14 +105,7 @@ distance_input p at h f t l =
       upper = upper_at (2 ^ 149) D 1 32 (2 ^ 144) (lit< tt) (lit≤ tt) k;
     }
 
--- ---- THE SPIKE: the inputs are the distance and the tap's height
-spike : Expr
-spike = times (var 1) (minus (constant one₃₂) (over (var 0) (constant tap_width)))
-
-spike_ok : T (certified binary32 (two distance unit) spike 1 262144)
-unfolding certified analyse spike distance unit range two of_bits
-spike_ok = tt
-
+-- ---- THE SPIKE
 spike_near : (p at tall : Float) → Level p → T (fits binary32 at) → T (finite at) → Level tall → T (lt (abs_of (p ⊖ at)) tap_width)
     → Within (value (spike_of tall (abs_of (p ⊖ at)))) (spikeℚ (value tall) (absℚ (value p -ℚ value at))) (ratio 1 262144)
 unfolding spike two eval_float eval_exact plain value of_bits

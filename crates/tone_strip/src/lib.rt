@@ -1,4 +1,6 @@
 // The strips of what is heard: a filter, an oscillator, a noise. The caller has tested the length. A loop answers the sum of the steps, which only an LFO's heights take.
+#![tactic(auto)]
+
 ghost use Rattle.std.specs.Prelude.{◌≡◌, ◌≤◌, length};
 ghost use Rattle.strip.specs.Strip.{filled_of, step_sum};
 

@@ -1,4 +1,6 @@
 // A number of turns for the sampled shapes as a caller gives it, and a shape at such a number.
+#![tactic(auto)]
+
 ghost use Rattle.std.specs.Prelude.{◌≡◌};
 ghost use Rattle.turns.specs.Turns.{turns_read, turned_of};
 

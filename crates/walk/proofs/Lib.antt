@@ -5,6 +5,7 @@ pub mod Steps
 pub mod HeldStep
 pub mod ProductSign
 pub mod Advances
+pub mod LimitError
 pub mod MostError
 pub mod StepError
 pub mod WalkError

@@ -18,43 +18,26 @@ use Rattle.exact.proofs.Defined.{value_defined}
 use Rattle.rounding.proofs.Relative.{relative_loosen, relative_product, relative_absolute}
 use Rattle.rounding.proofs.UnitRoundoff.{sub_relative, mul_relative, div_relative, roundoff}
 use Rattle.rounding.proofs.Signs.{abs_at_most, difference_nonnegative, relative_nonnegative}
-use Rattle.rounding.proofs.Analyser.{Bound, Expr, var, constant, minus, times, over, Approximates, constant_of, analyse, certified, plain, eval_float, eval_exact}
+use Rattle.rounding.proofs.Analyser.{Bound, Expr, var, minus, times, Approximates, constant_of, analyse, certified, plain, eval_float, eval_exact}
 use Rattle.rounding.proofs.Soundness.{plainly}
 use Rattle.rounding.proofs.Inputs.{range, input, covers, one, one_input, two, two_inputs, bounded, concludes, concluded}
 use Rattle.rounding.proofs.OwnRange.{widened, own_range, approximates_finite}
 use Rattle.floor.proofs.Phase.{phase_finite}
 use Rattle.walk.specs.Formula.{limit_of}
 use Rattle.walk.specs.Exact.{limitℚ}
+use Rattle.walk.proofs.LimitError.{two₃₂, slew_bound, limit, limit_bound, limit_ok}
 use Rattle.walk.proofs.Advances.{Stepped, eight₃₂}
 use Rattle.walk.proofs.ProductSign.{product_nonnegative, product_at_most, mul_nonnegative}
 
 -- ---- THE LIMIT OF A CYCLE, for a slew from 1/255 to 1
-abbrev two₃₂ : Float
-two₃₂ = bits 0x4000_0000
-
 pub record Slew (x : Float) : Type 0 where
   pub holds : T (fits binary32 x)
   pub from : T (le (bits 0x3b80_8081) x)
   pub to : T (le x one₃₂)
 
-slew_bound : Bound
-unfolding range
-slew_bound = range binary32 (bits 0x3b80_8081) one₃₂
-
 slew_input_lem : (x : Float) → Slew x → Approximates binary32 x (value x) slew_bound
 unfolding slew_bound constant_of of_bits
 slew_input_lem x h = input binary32 x (bits 0x3b80_8081) one₃₂ h.holds tt tt h.from h.to
-
-limit : Expr
-limit = over (constant two₃₂) (var 0)
-
--- from 1 to 512
-limit_bound : Bound
-limit_bound = record { lo = pos (2 ^ 149); hi = pos (512 * 2 ^ 149); err = 2 ^ 149 }
-
-limit_ok : T (concludes binary32 (one slew_bound) limit limit_bound)
-unfolding concludes covers analyse limit slew_bound limit_bound range one of_bits
-limit_ok = tt
 
 limit_bounded : (x : Float) → Slew x → Approximates binary32 (limit_of x) (limitℚ (value x)) limit_bound
 unfolding limit one eval_float eval_exact plain value of_bits limit_of limitℚ

@@ -1,4 +1,6 @@
 // The slew walk of an LFO: its height at a phase, and its steps; or a step at a time, so that one walk serves many phases.
+#![tactic(auto)]
+
 ghost use Rattle.std.specs.Prelude.{◌≡◌, ◌≤◌, Float};
 ghost use Rattle.curve.specs.Curve.{clamp_unit_of};
 ghost use Rattle.walk.specs.Formula.{place_of, limit_of, moved_of, cut_after, walked_of};

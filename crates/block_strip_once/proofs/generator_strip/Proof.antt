@@ -14,7 +14,7 @@ unfolding strip_once_answer strip_after strip_of
 returns c = let unfit = sym c.before.fits2.ensures ∙ not-true _ c.if1.true in (simp unfit, simp unfit)
 
 fill_once_requires : tie.Need-fill-once-requires
-fill_once_requires c κs = (c.before.before.before.before.requires, between _ c.before.before.fits2.ensures c.before.if1.false)
+fill_once_requires c κs = record { shape_forward = c.before.before.before.before.requires; fits = between _ c.before.before.fits2.ensures c.before.if1.false }
 
 returns_2 : tie.Need-returns-2
 unfolding strip_once_answer strip_after strip_of

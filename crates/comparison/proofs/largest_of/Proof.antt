@@ -6,10 +6,10 @@ use Rattle.comparison.proofs.largest_of.Statement.{statement}
 use Rattle.comparison.proofs.largest_of.Tie as tie
 
 fill_once_requires : tie.Need-fill-once-requires
-fill_once_requires c κs = (rw c.before.turned.ensures (turned_goes _ _), search rules)
+fill_once_requires c κs = record { shape_forward = rw c.before.turned.ensures (turned_goes _ _); fits = search rules }
 
 fill_once_requires_2 : tie.Need-fill-once-requires-2
-fill_once_requires_2 c κs = (rw c.before.turned2.ensures (turned_goes _ _), search rules)
+fill_once_requires_2 c κs = record { shape_forward = rw c.before.turned2.ensures (turned_goes _ _); fits = search rules }
 
 returns : tie.Need-returns
 returns c =

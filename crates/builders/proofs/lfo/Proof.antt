@@ -1,7 +1,0 @@
--- `lfo` meets its contract. Assumes nothing.
-use borrow.Author.Rules.{rules}
-use Rattle.builders.proofs.lfo.Statement.{statement}
-use Rattle.builders.proofs.lfo.Tie as tie
-
-pub lfo_spec : {M : Type 1} → statement M
-lfo_spec = tie.close (tie.spec (λ c κs. search rules) (λ c κs. search rules) (λ c. simp (c.of-shape.ensures, c.before.lfo-from.ensures)))

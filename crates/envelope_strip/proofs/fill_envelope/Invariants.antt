@@ -1,0 +1,11 @@
+-- `fill_envelope` fills the strip, and answers that no height takes steps. The loop's invariant: the first i samples are written. Assumes nothing.
+use Prim.Native.Nat.{◌-◌}
+use Rattle.generator.specs.declared.Shape.TheVariants.{Envelope as AnEnvelope}
+use Rattle.strip.proofs.Filling.{Filled}
+use Rattle.envelope_strip.proofs.fill_envelope.Given as goal
+
+abbrev pub invariant-loop-i : goal.invariant-loop-i
+invariant-loop-i l = Filled (AnEnvelope l.e) l.n l.i l.initial.out l.out
+
+abbrev pub decreases-loop-i : goal.decreases-loop-i
+decreases-loop-i l = l.n - l.i

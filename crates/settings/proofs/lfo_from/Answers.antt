@@ -1,0 +1,8 @@
+-- `lfo_from` is `lfo_of`. Assumes nothing.
+use Rattle.settings.specs.Settings.{lfo_of}
+use Rattle.settings.proofs.lfo_from.Goals as goal
+
+pub returns : goal.returns
+unfolding lfo_of
+returns c =
+    simp (c.byte.ensures, c.turns.ensures, c.shape_from-2.ensures, c.shape_from.ensures)
