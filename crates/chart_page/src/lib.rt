@@ -1,4 +1,6 @@
 // The chart of bends as one page of SVG, A4 landscape: a cell for each of the 256 curve bytes.
+#![tactic(auto)]
+
 ghost use Rattle.text.specs.Text.{Puts};
 ghost use Rattle.chart_page.specs.ChartPage.{head_text, cells_text, chart_text};
 
