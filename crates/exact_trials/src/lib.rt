@@ -1,5 +1,7 @@
 // What the row of exact heights tries: a line of the list. A line has a height's input and its bounds, in units of 2^-32: reference/exact/heights.py says how they are made. The
 // bounds are rounded outward to whole units, so a height may lie up to 2^-32 further from its exact height than its code's bound; the comparison itself rounds nothing.
+#![tactic(auto)]
+
 ghost use Rattle.std.specs.Prelude.{◌≡◌, min};
 ghost use Rattle.exact_trials.specs.LineTrials.{line_input, is_whole, line_trial};
 

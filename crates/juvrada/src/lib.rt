@@ -1,5 +1,7 @@
 // The C interface, include/juvrada.h, for callers in another language. A slice is a pointer and a length, an answer a struct of numbers. Each function calls the one of its
 // name that makes those numbers.
+#![tactic(auto)]
+
 ghost use Rattle.std.specs.Prelude.{◌≡◌};
 ghost use Rattle.bends.specs.Formula.{Charted};
 ghost use Rattle.taps.specs.Promises.{TapsAnswered};
