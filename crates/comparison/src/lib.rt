@@ -1,4 +1,6 @@
 // What differs between two programs: a line for each generator and for the arpeggio's gates, with a line for each of their bytes that is not the same; then the other bytes.
+#![tactic(auto)]
+
 ghost use Rattle.std.specs.Prelude.{◌≡◌, ◌≤◌, length};
 ghost use Rattle.text.specs.Text.{Puts};
 ghost use Rattle.codes.specs.Codes.{code_of};

@@ -1,4 +1,6 @@
 // The captions below an envelope's frame: a row of cells, one for each segment that has samples.
+#![tactic(auto)]
+
 ghost use Rattle.std.specs.Prelude.{◌<◌, ◌≤◌};
 ghost use Rattle.text.specs.Text.{Puts};
 ghost use Rattle.panel_captions.specs.Captions.{name_text, outline_text, label_text, cell_between, edge_text, captions_text};

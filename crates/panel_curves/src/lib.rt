@@ -1,4 +1,6 @@
 // What is drawn in a panel: the curve of a shape with its marks, over an older one where they differ.
+#![tactic(auto)]
+
 ghost use Rattle.std.specs.Prelude.{◌≡◌, true};
 ghost use Rattle.text.specs.Text.{Puts};
 ghost use Rattle.shape_strip.specs.Forward.{goes_forward};

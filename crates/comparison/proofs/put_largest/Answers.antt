@@ -1,0 +1,14 @@
+-- `put_largest` puts `largest_text`: its parts, one after the other. Assumes nothing.
+use Rattle.text.proofs.Writing.{◌⨾◌}
+use Rattle.strip.specs.Strip.{sample_position}
+use Rattle.comparison.specs.Differences.{largest_text}
+use Rattle.comparison.proofs.put_largest.Goals as goal
+
+pub returns : goal.returns
+unfolding largest_text sample_position
+returns c = simp (← c.sample_position.ensures)
+    (c.put-next.ensures ⨾
+    c.put_nine_places-next.ensures ⨾
+    c.put-next-2.ensures ⨾
+    c.put_nine_places-next-2.ensures ⨾
+    c.put.ensures)
