@@ -11,6 +11,9 @@ and no λ). It counts as turned where that gives today's line for the whole of t
 the edit is named, to be mended by hand. An import is turned by its names: those that an edit adds come from where today's files
 take them. The notes of an edit keep their words, and what stands between backticks is turned by the dictionary.
 
+A run from the older spelling knows nothing of what was mended by hand after it: to carry the edits on once more, give the last
+commit in which all of them fit.
+
 An edit that fits the sources of today as it stands, and whose new text the dictionary leaves alone, keeps its text.
 `--words` prints the dictionary of the repository's own names instead; `--pages` turns the names between backticks in the pages.
 """

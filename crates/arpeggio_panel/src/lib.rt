@@ -1,4 +1,6 @@
 // The panel of the arpeggio's gates: the last of a page.
+#![tactic(auto)]
+
 ghost use Rattle.text.specs.Text.{Puts};
 ghost use Rattle.code_bytes.specs.Bytes.{byte_at, gates_byte};
 ghost use Rattle.panel_gates.specs.GateText.{gate_text};

@@ -1,4 +1,6 @@
 // The path of each bar of the gates in a panel.
+#![tactic(auto)]
+
 ghost use Rattle.std.specs.Prelude.{◌<◌, min};
 ghost use Rattle.text.specs.Text.{Puts};
 ghost use Rattle.bar_paths.specs.Paths.{corner_text, bar_text, some_bars};

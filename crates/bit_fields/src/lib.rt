@@ -1,4 +1,6 @@
 // The bit pattern of an f32 as text: hexadecimal digits, then sign, field of the exponent and fraction, bit by bit.
+#![tactic(auto)]
+
 ghost use Rattle.std.specs.Prelude.{[], ◌∷◌, ◌/◌, ◌%◌, ◌^◌, ◌<◌, ◌≤◌};
 ghost use Rattle.text.specs.Text.{Puts};
 ghost use Rattle.numerals.specs.Spelled.{glyph_of, digits_of};

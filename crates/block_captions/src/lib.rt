@@ -1,4 +1,6 @@
 // The captions of the samples of a block's strip.
+#![tactic(auto)]
+
 ghost use Rattle.block_captions.specs.Promises.{CaptionsAnswered};
 
 use block::Chosen;

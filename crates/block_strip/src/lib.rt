@@ -1,4 +1,6 @@
 // The strip of a block and a code: heights from the left edge to the right, or a refusal.
+#![tactic(auto)]
+
 ghost use Rattle.std.specs.Prelude.{◌≡◌, ◌≤◌, length};
 ghost use Rattle.block.specs.Refusals.{chosen_of};
 ghost use Rattle.block_strip.specs.Strips.{strip_answer, strip_after};

@@ -1,4 +1,6 @@
 // The strip of a block and a code with one walk along it: the heights and the refusals of crate block_strip, and steps of its own.
+#![tactic(auto)]
+
 ghost use Rattle.std.specs.Prelude.{◌≡◌, true, length};
 ghost use Rattle.shape_strip.specs.Forward.{goes_forward};
 ghost use Rattle.block_strip.specs.Strips.{strip_after};

@@ -1,4 +1,6 @@
 // The strips of a block, a code and a number of turns, by either engine.
+#![tactic(auto)]
+
 ghost use Rattle.std.specs.Prelude.{◌≡◌, length};
 ghost use Rattle.block_strip.specs.Strips.{strip_answer, strip_after};
 ghost use Rattle.block_strip_turns.specs.Promises.{StripTurnsAnswered, StripOnceTurnsAnswered};

@@ -1,4 +1,6 @@
 // Captions for C callers: what crate block_captions answers, as a number.
+#![tactic(auto)]
+
 ghost use Rattle.std.specs.Prelude.{◌≡◌};
 ghost use Rattle.refusals.specs.Refusals.{answer_refusal};
 ghost use Rattle.block_captions.specs.Promises.{CaptionsAnswered};

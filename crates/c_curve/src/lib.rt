@@ -1,4 +1,6 @@
 // A curve byte for C callers: what crate curve_finder answers, as numbers.
+#![tactic(auto)]
+
 ghost use Rattle.std.specs.Prelude.{◌≡◌};
 ghost use Rattle.curve_finder.specs.Promises.{CurveAnswered};
 ghost use Rattle.c_results.specs.Promises.{Returned};

@@ -1,4 +1,6 @@
 // The gates and the bars for C callers: what crate block_gates answers, as numbers in two lent arrays.
+#![tactic(auto)]
+
 ghost use Rattle.block_gates.specs.Answers.{gates_answer, bars_answer};
 ghost use Rattle.block_gates.specs.Promises.{GatesAnswered};
 ghost use Rattle.c_results.specs.Promises.{Returned};

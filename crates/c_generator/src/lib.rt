@@ -1,4 +1,6 @@
 // The rest level, the scale and the anchor for C callers: what crate block_generator answers, as numbers.
+#![tactic(auto)]
+
 ghost use Rattle.std.specs.Prelude.{◌≡◌};
 ghost use Rattle.block_choice.specs.Promises.{Answered};
 ghost use Rattle.block_turns.specs.Promises.{TurnsAnswered};

@@ -1,4 +1,6 @@
 // Heights for C callers: what crates block and block_turns answer, as numbers.
+#![tactic(auto)]
+
 ghost use Rattle.std.specs.Prelude.{◌≡◌};
 ghost use Rattle.block.specs.Promises.{HeightAnswered};
 ghost use Rattle.block_turns.specs.Promises.{HeightTurnsAnswered};

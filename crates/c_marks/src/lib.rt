@@ -1,4 +1,6 @@
 // The marks for C callers: what crate block_marks answers, as numbers in two lent arrays.
+#![tactic(auto)]
+
 ghost use Rattle.block_choice.specs.Promises.{Answered};
 ghost use Rattle.block_turns.specs.Promises.{TurnsAnswered};
 ghost use Rattle.block_marks.specs.Answers.{marks_answer, marks_refusal};

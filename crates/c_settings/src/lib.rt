@@ -1,4 +1,6 @@
 // The settings for C callers: what crate block_settings answers, as numbers in a lent array.
+#![tactic(auto)]
+
 ghost use Rattle.std.specs.Prelude.{◌≡◌, ◌≤◌};
 ghost use Rattle.lists.specs.Written.{written};
 ghost use Rattle.block_choice.specs.Promises.{Answered};

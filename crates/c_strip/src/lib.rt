@@ -1,4 +1,6 @@
 // Strips for C callers: what crates block_strip and block_strip_once answer, as numbers.
+#![tactic(auto)]
+
 ghost use Rattle.std.specs.Prelude.{◌≡◌};
 ghost use Rattle.block_strip.specs.Promises.{StripAnswered};
 ghost use Rattle.block_strip_once.specs.Promises.{StripOnceAnswered};

@@ -1,4 +1,6 @@
 // Taps for C callers, which lend them as two arrays.
+#![tactic(auto)]
+
 ghost use Rattle.std.specs.Prelude.{◌≡◌};
 ghost use Rattle.taps.specs.Promises.{TapsAnswered};
 ghost use Rattle.c_results.specs.Promises.{Returned};

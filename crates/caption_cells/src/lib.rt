@@ -1,4 +1,6 @@
 // Where the cells of an envelope's captions stand below its frame.
+#![tactic(auto)]
+
 ghost use Rattle.std.specs.Prelude.{◌≡◌, ◌+◌, ◌≤◌, ◌<◌};
 ghost use Rattle.caption_cells.specs.Cells.{before_of, samples_before, start_of, cell_end};
 

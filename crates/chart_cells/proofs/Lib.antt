@@ -1,2 +1,3 @@
 -- The six places of every bend.
+pub mod Quarters
 pub mod Places

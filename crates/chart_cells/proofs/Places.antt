@@ -1,8 +1,7 @@
 -- THE SIX PLACES OF A BEND: a quarter of it is exact and lies from 0 to 1, so that four millionths of the quarter are millionths of the bend. One computed test over the 256 curve bytes. Assumes nothing.
 use mathlib.Core.Path.{◌≡◌}
-use mathlib.Core.Bool.{Bool}
 use Prim.Native.Nat.{ℕ, ◌<◌}
-use lib.Dec.{T, eqb, eqb→eq}
+use lib.Dec.{T, eqb→eq}
 use lib.Ieee.{of_bits, of_int, is_nan, lt, add, sub, mul, div}
 use Rattle.exact.specs.Fraction.{ratio, ◌*ℚ◌}
 use Rattle.exact.specs.Value.{value}
@@ -15,9 +14,7 @@ use Rattle.curve.specs.Curve.{position_of}
 use Rattle.lists.proofs.Every.{every, each}
 use Rattle.bends.specs.Formula.{bend_of}
 use Rattle.fixed_point.specs.Nearest.{nearestℚ, nearest_of}
-
-quarters : ℕ → Bool
-quarters c = eqb (nearest_of (bend_of c ⊗ quarter₃₂) 4000000) (nearestℚ (value (bend_of c) *ℚ ratio 1000000 1))
+use Rattle.chart_cells.proofs.Quarters.{quarters}
 
 all_quarters : T (every quarters 256)
 unfolding every quarters nearest_of position_of is_nan bend_of lt exp2_of exp2_within clamp_of floor_of fract_of exp2_scale exp2_coefficients horner value of_bits of_int add sub mul div

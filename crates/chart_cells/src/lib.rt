@@ -1,4 +1,6 @@
 // A cell of the chart of bends: a curve byte, its bend in six places, and the bits of the bend.
+#![tactic(auto)]
+
 ghost use Rattle.text.specs.Text.{Puts};
 ghost use Rattle.chart_cells.specs.Cells.{six_places, numbers_text, cell_text};
 

@@ -1,4 +1,6 @@
 // The chart of bends as one page of SVG, A4 landscape: a cell for each of the 256 curve bytes.
+#![tactic(auto)]
+
 ghost use Rattle.text.specs.Text.{Puts};
 ghost use Rattle.chart_page.specs.ChartPage.{head_text, cells_text, chart_text};
 
@@ -27,7 +29,7 @@ fn put_head(out: &mut [u8], at: usize) -> usize
 }
 
 fn put_cells(out: &mut [u8], at: usize) -> usize
-    ensures { Puts out.old at (cellsText 256) out.new result }
+    ensures { Puts out.old at (cells_text 256) out.new result }
 {
     let mut next = at;
     let mut c: u16 = 0;
@@ -40,7 +42,7 @@ fn put_cells(out: &mut [u8], at: usize) -> usize
 
 // Writes the page from the buffer's start on, and answers where it ends.
 pub fn page(out: &mut [u8]) -> usize
-    ensures { Puts out.old 0 chartText out.new result }
+    ensures { Puts out.old 0 chart_text out.new result }
 {
     let mut next = put_head(out, 0);
     next = put_cells(out, next);

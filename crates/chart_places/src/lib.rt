@@ -1,4 +1,6 @@
 // Where the cells of the chart of bends stand.
+#![tactic(auto)]
+
 ghost use Rattle.text.specs.Text.{Puts};
 ghost use Rattle.chart_places.specs.Places.{place_text};
 

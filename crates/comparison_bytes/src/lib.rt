@@ -1,4 +1,6 @@
 // The bytes of two blocks held against each other: which of those that a generator reads are the same, and a line for each that is not.
+#![tactic(auto)]
+
 ghost use Rattle.std.specs.Prelude.{◌≡◌};
 ghost use Rattle.text.specs.Text.{Puts};
 ghost use Rattle.code_bytes.specs.Bytes.{bytes_of, byte_at};

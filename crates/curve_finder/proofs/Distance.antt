@@ -6,10 +6,10 @@ use Prim.Native.Nat.{ℕ, ◌+◌, ◌*◌, ◌^◌, ◌≤◌, ◌<◌}
 use native.Mathlib.Nat.{le_of_mul-le-mul_right, lt_of_le_of_lt, mul-le-mul_right, mul-pos, not-le_of_lt}
 use native.Mathlib.Omega.{arith}
 use lib.Dec.{T, lit<}
-use lib.Ieee.{Float, binary32, of_bits, lt}
+use lib.Ieee.{Float, binary32, of_bits}
 use Rattle.exact.specs.Fraction.{Fraction, Defined, ratio, ◌+ℚ◌, ◌≤ℚ◌}
 use Rattle.exact.specs.Value.{value}
-use Rattle.exact.specs.Binary32.{◌⊖◌, bits, zero₃₂, one₃₂}
+use Rattle.exact.specs.Binary32.{bits, zero₃₂, one₃₂}
 use Rattle.exact.proofs.Parts.{num⁺, num⁻}
 use Rattle.exact.proofs.Defined.{value_defined}
 use Rattle.exact.proofs.Order.{Decides, ≤ℚ-parts, parts-≤ℚ, le_value}
@@ -17,6 +17,7 @@ use Rattle.rounding.proofs.Operations.{Quanta}
 use Rattle.rounding.proofs.Quanta.{HasQuanta, InFormat, in_format, quanta_value, sum_quanta, nonnegative_quanta}
 use Rattle.curve.proofs.Positions.{Level, level_finite}
 use Rattle.curve_finder.specs.Promises.{Near, Tells}
+use Rattle.curve_finder.proofs.Above.{is_above}
 use Rattle.curve_finder.proofs.LessPower.{less_power_decides}
 
 -- ---- fractions are in the order of their quanta
@@ -64,10 +65,6 @@ unfolding of_bits
 reach = refl
 
 -- ---- THE TEST IS EXACT
--- x is above y by more than 1/512, as floats
-abbrev is_above : Float → Float → Bool
-is_above x y = lt y (x ⊖ bits 0x3b00_0000)
-
 module _ (x y : Float) (a : Counted x) (b : Counted y) where
   decides : Decides (is_above x y) (b.count + 2 ^ 140) a.count
   decides = less_power_decides binary32 x (bits 0x3b00_0000) y a.format a.count b.count 140 a.is a.quanta reach b.quanta a.most

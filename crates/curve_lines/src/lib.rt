@@ -1,4 +1,6 @@
 // A curve byte for a wanted end, as text.
+#![tactic(auto)]
+
 ghost use Rattle.text.specs.Text.{Puts};
 ghost use Rattle.curve_lines.specs.Lines.{number_line, found_text, none_text, curve_text};
 

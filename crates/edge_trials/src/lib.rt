@@ -1,4 +1,6 @@
 // The trials of both edges: heights that are known beforehand, and positions beyond the edges.
+#![tactic(auto)]
+
 ghost use Rattle.std.specs.Prelude.{◌≡◌, get_or};
 ghost use Rattle.edge_trials.specs.Edges.{edge_trial, edges_of, no_edges, table, side_bits, side_height, known_at, known_trial, edge_bits, pattern_of, beyond_input, beyond_trial};
 

@@ -9,24 +9,13 @@ use lib.Pow.{pow_pos, pow-add}
 use lib.Ieee.{Float, nan, inf, fin, binary32, of_bits, to_bits, is_nan, lt}
 use Rattle.exact.specs.Fraction.{ratio, ◌*ℚ◌}
 use Rattle.exact.specs.Value.{value}
-use Rattle.exact.specs.Binary32.{bits}
 use Rattle.rounding.proofs.Operations.{Quanta}
 use Rattle.rounding.proofs.Comparison.{lt_quanta, nlt_quanta}
 use Rattle.curve.proofs.Positions.{Level, level_finite}
 use Rattle.fixed_point.specs.Nearest.{nearestℚ}
+use Rattle.fixed_point.proofs.Least.{least, few, least_quanta}
 use Rattle.fixed_point.proofs.Product.{product}
 use Rattle.fixed_point.proofs.Bits.{level_parts, Range, bits_range, bits_quanta}
-
--- 2 ^ -33, and its quanta
-abbrev pub least : Float
-least = bits 0x2f00_0000
-
-abbrev few : ℕ
-few = 2 ^ 116
-
-least_quanta : Quanta (2 ^ 149) least few 0
-unfolding of_bits
-least_quanta = refl
 
 pub product_below : (a b A B : ℕ) → a < A → b < B → a * b < A * B
 product_below a b A B h k = let p : 0 < B = omega arith in lt_of_le_of_lt (mul-le-mul_left a (le_of_lt k)) (mul-lt-mul_of_pos_right h p)

@@ -17,7 +17,8 @@ use Rattle.rounding.proofs.Operations.{Quanta}
 use Rattle.rounding.proofs.Comparison.{lt_quanta}
 use Rattle.curve.proofs.Positions.{Level, level_finite}
 use Rattle.fixed_point.proofs.Bits.{level_parts, Range, bits_quanta}
-use Rattle.fixed_point.proofs.Cases.{least, range}
+use Rattle.fixed_point.proofs.Least.{least}
+use Rattle.fixed_point.proofs.Cases.{range}
 use Rattle.fixed_point.specs.Between.{units, between_of}
 use Rattle.fixed_point.proofs.Marks.{below_decides, above_decides, ltb_decides, scaled_decides}
 

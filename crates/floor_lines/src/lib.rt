@@ -1,5 +1,7 @@
 // The floor of one f32, worked as on paper: its bit pattern, the case of its exponent, and what follows.
 // Every pattern is taken, a NaN's too.
+#![tactic(auto)]
+
 ghost use Rattle.std.specs.Prelude.{◌≡◌, ◌+◌, ◌/◌, ◌%◌, ◌^◌, ◌<◌, ◌≤◌};
 ghost use Rattle.floor.specs.Exponent.{exponent};
 ghost use Rattle.text.specs.Text.{Puts};

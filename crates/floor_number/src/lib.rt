@@ -1,4 +1,6 @@
 // Whole numbers about the floor of a bit pattern, as text: the exponent, and the floor itself below exponent 23.
+#![tactic(auto)]
+
 ghost use Rattle.std.specs.Prelude.{◌≡◌, ◌++◌, ◌+◌, ◌/◌, ◌%◌, ◌^◌, ◌<◌, ◌≤◌};
 ghost use Rattle.exact.specs.Fraction.{floorℚ};
 ghost use Rattle.exact.specs.Value.{value};

@@ -1,4 +1,6 @@
 // Why the floor is what it is, in words: by the sign of x, and by the bits of the fraction that stand below the point.
+#![tactic(auto)]
+
 ghost use Rattle.text.specs.Text.{Puts};
 ghost use Rattle.floor_reasons.specs.Reasons.{small_reason, cleared_reason, step_reason};
 

@@ -1,4 +1,6 @@
 // The gates or the bars of an answer as numbers in two lent arrays.
+#![tactic(auto)]
+
 ghost use Rattle.std.specs.Prelude.{◌≡◌, ◌≤◌};
 ghost use Rattle.lists.specs.Written.{written};
 ghost use Rattle.gate_numbers.specs.Results.{gate_start, gate_end, gates_used, GatesNumbers};

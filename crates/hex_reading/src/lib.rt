@@ -1,4 +1,6 @@
 // A bit pattern of 32 bits read from its hexadecimal digits.
+#![tactic(auto)]
+
 ghost use Rattle.std.specs.Prelude.{◌≡◌, ◌≤◌, length, drop};
 ghost use Rattle.hex_reading.specs.Reading.{digit_of, read_after, read_of};
 

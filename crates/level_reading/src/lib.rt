@@ -1,5 +1,7 @@
 // A level read from its decimals: the number that is written is taken exactly, and rounded once to an f32. Its places are doubled again and again, as digits;
 // what is carried out in front of them is the number's binary places.
+#![tactic(auto)]
+
 ghost use Rattle.std.specs.Prelude.{◌≡◌, false, ◌∷◌, eqb, length};
 ghost use Prim.Native.Nat.{◌*◌, ◌^◌, ◌≤◌, ◌<◌, compare};
 ghost use Rattle.std.specs.Float.{binary32};

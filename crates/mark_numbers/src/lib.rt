@@ -1,4 +1,6 @@
 // The marks of an answer as numbers in two lent arrays.
+#![tactic(auto)]
+
 ghost use Rattle.std.specs.Prelude.{◌≡◌, ◌≤◌};
 ghost use Rattle.lists.specs.Written.{written};
 ghost use Rattle.mark_numbers.specs.Results.{mark_position, mark_kind, marks_used, MarksNumbers};

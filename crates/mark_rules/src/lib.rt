@@ -1,4 +1,6 @@
 // A mark on a panel: a rule through the frame, with what is at it.
+#![tactic(auto)]
+
 ghost use Rattle.std.specs.Prelude.{◌<◌};
 ghost use Rattle.text.specs.Text.{Puts};
 ghost use Rattle.mark_rules.specs.Rules.{kind_text, rule_text, label_text, mark_text};

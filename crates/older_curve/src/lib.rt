@@ -1,4 +1,6 @@
 // The curve of an older program, beneath that of the program, where it differs.
+#![tactic(auto)]
+
 ghost use Rattle.std.specs.Prelude.{◌≡◌};
 ghost use Rattle.text.specs.Text.{Puts};
 ghost use Rattle.older_curve.specs.Older.{same_points, older_curve_text};

@@ -1,4 +1,6 @@
 // What follows the codes' panels on a page: the arpeggio's panel, and the foot.
+#![tactic(auto)]
+
 ghost use Rattle.text.specs.Text.{Puts};
 ghost use Rattle.page_end.specs.End.{page_end};
 

@@ -1,4 +1,6 @@
 // What stands around the curve of a code's panel: the title, the frame, and the lines that say what to dial in.
+#![tactic(auto)]
+
 ghost use Rattle.text.specs.Text.{Puts};
 ghost use Rattle.code_bytes.specs.Bytes.{byte_at};
 ghost use Rattle.panel_dials.specs.Rest.{panel_rest};

@@ -1,4 +1,6 @@
 // The frame of a panel: its place on the page, its title, the frame itself and the rest level.
+#![tactic(auto)]
+
 ghost use Rattle.std.specs.Prelude.{◌<◌};
 ghost use Rattle.text.specs.Text.{Puts};
 ghost use Rattle.panel_frame.specs.Frame.{place_text, panel_end, frame_text, title_text, rest_text};

@@ -1,5 +1,5 @@
 -- THE GATES OF A PANEL: docs/SPECIFICATION.md, "The page". Definitions only.
-use Rattle.std.specs.Prelude.{cond, List, [], ◌++◌, ℕ, ◌+◌, ◌/◌, eqb}
+use Rattle.std.specs.Prelude.{cond, List, [], ◌++◌, ℕ, eqb}
 use Rattle.gates.specs.Gates.{bars_of}
 use Rattle.text.specs.Text.{ascii}
 use Rattle.panel_bars.specs.Bars.{bars_text, older_bars_text, steps_text}

@@ -1,4 +1,6 @@
 // What is drawn in the panel of the gates, over an older gate where they differ.
+#![tactic(auto)]
+
 ghost use Rattle.std.specs.Prelude.{◌<◌};
 ghost use Rattle.text.specs.Text.{Puts};
 ghost use Rattle.panel_gates.specs.GateText.{older_gate, gate_text};

@@ -1,4 +1,6 @@
 // The words below a panel's title: what its horizontal covers, and whether it starts at the left edge.
+#![tactic(auto)]
+
 ghost use Rattle.std.specs.Prelude.{◌≡◌, ◌<◌};
 ghost use Rattle.text.specs.Text.{Puts};
 ghost use Rattle.panel_labels.specs.Labels.{nearest_whole, turns_text, scale_text, edge_text, subtitle_text};

@@ -1,4 +1,6 @@
 // The curve of a panel: a line through its samples.
+#![tactic(auto)]
+
 ghost use Rattle.std.specs.Prelude.{◌<◌, ◌≤◌, length};
 ghost use Rattle.text.specs.Text.{Puts};
 ghost use Rattle.panel_line.specs.Line.{point_text, points_text, line_text, curve_text};

@@ -1,4 +1,6 @@
 // The marks on a panel, each in its row.
+#![tactic(auto)]
+
 ghost use Rattle.std.specs.Prelude.{◌≡◌, ◌<◌};
 ghost use Rattle.text.specs.Text.{Puts};
 ghost use Rattle.panel_marks.specs.Marks.{cycle_row, row_of, marks_text};

@@ -1,6 +1,6 @@
 -- THE PAGE OF ALL PARAMETERS: docs/SPECIFICATION.md, "The page of all parameters". A4, landscape, in hundredths of a millimetre. `file` is the name of the block's file, and empty
 -- where there is none. Definitions only.
-use Rattle.std.specs.Prelude.{cond, List, [], ◌++◌, ℕ, ◌+◌, ◌/◌, eqb, length}
+use Rattle.std.specs.Prelude.{cond, List, [], ◌++◌, ℕ, eqb, length}
 use Rattle.code_bytes.specs.Bytes.{byte_at, block_length}
 use Rattle.text.specs.Text.{ascii}
 use Rattle.provenance.specs.Provenance.{name_text, file_text}

@@ -1,4 +1,6 @@
 // All 242 parameters of a program as one page of SVG, A4 landscape: four columns of number, name and byte.
+#![tactic(auto)]
+
 ghost use Rattle.std.specs.Prelude.{◌≡◌, length};
 ghost use Rattle.text.specs.Text.{Puts};
 ghost use Rattle.code_bytes.specs.Bytes.{block_length};
@@ -28,8 +30,8 @@ fn put_style(out: &mut [u8], at: usize) -> usize
 }
 
 fn put_head(out: &mut [u8], at: usize, file: &[u8], block: &[u8]) -> usize
-    requires { length block.now ≡ blockLength }
-    ensures { Puts out.old at (headText file.now block.now) out.new result }
+    requires { length block.now ≡ block_length }
+    ensures { Puts out.old at (head_text file.now block.now) out.new result }
 {
     let mut next = put(out, at, b"<title>");
     next = put_name(out, next, file, block);
@@ -43,7 +45,7 @@ fn put_head(out: &mut [u8], at: usize, file: &[u8], block: &[u8]) -> usize
 }
 
 fn put_foot(out: &mut [u8], at: usize, file: &[u8], block: &[u8]) -> usize
-    ensures { Puts out.old at (footText file.now block.now) out.new result }
+    ensures { Puts out.old at (foot_text file.now block.now) out.new result }
 {
     let mut next = put(
         out,

@@ -1,4 +1,6 @@
 // A strip as text, a row for each sample.
+#![tactic(auto)]
+
 ghost use Rattle.std.specs.Prelude.{◌≡◌, ◌<◌, ◌≤◌, length, get_or};
 ghost use Rattle.text.specs.Text.{Puts};
 ghost use Rattle.captions.specs.Captions.{no_caption};

@@ -1,4 +1,6 @@
 // The settings of a generator as plain numbers, its fields in the order of their declaration.
+#![tactic(auto)]
+
 ghost use Rattle.std.specs.Prelude.{◌≡◌, [], ◌∷◌};
 ghost use Rattle.settings_numbers.specs.Numbers.{flag_of, shape_number, pass_number, stored_settings, settings_numbers};
 

@@ -1,4 +1,6 @@
 // Every shape byte of LFO 1, slew 0, at 65 positions.
+#![tactic(auto)]
+
 ghost use Rattle.std.specs.Prelude.{◌≡◌, ◌≤◌};
 ghost use Rattle.shape_trials.specs.Shapes.{word_at, differs_at, differing, shape_trial, unnamed_trial, named_trial};
 

@@ -1,4 +1,6 @@
 // Slew at 1 and at 255: the steps of LFO 1's walk, which has 96 to a turn, and a turn before the left edge.
+#![tactic(auto)]
+
 ghost use Rattle.std.specs.Prelude.{◌≡◌, ◌≤◌};
 ghost use Rattle.slew_trials.specs.Slew.{least_steps, most_steps, slew_byte, slew_input, slew_steps, steps_before, enough, slew_trial};
 

@@ -1,4 +1,6 @@
 // A row of trials: how many values were compared, how many trials are not right, and the first inputs of those.
+#![tactic(auto)]
+
 ghost use Rattle.std.specs.Prelude.{◌≡◌, []};
 ghost use Rattle.trials.specs.Trials.{no_input, nothing, row_of, passes_of};
 ghost use Rattle.trials.specs.Noted.{plus_of, noted_of};

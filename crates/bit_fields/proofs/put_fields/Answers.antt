@@ -1,0 +1,13 @@
+-- `put_fields` puts `fields_text`: its parts, one after the other. Assumes nothing.
+use Rattle.text.proofs.Writing.{◌⨾◌}
+use Rattle.bit_fields.specs.Pattern.{fields_text}
+use Rattle.bit_fields.proofs.put_fields.Goals as goal
+
+pub returns : goal.returns
+unfolding fields_text
+returns c =
+    c.put_bits-next.ensures ⨾
+    c.put-next.ensures ⨾
+    c.put_bits-next-2.ensures ⨾
+    c.put-next-2.ensures ⨾
+    c.put_bits.ensures

@@ -1,7 +1,0 @@
--- `anchored` meets its contract: the function that it calls has promised the answer. Assumes nothing.
-use borrow.Author.Rules.{rules}
-use Rattle.c_generator.proofs.anchored.Statement.{statement}
-use Rattle.c_generator.proofs.anchored.Tie as tie
-
-pub anchored_spec : {M : Type 1} → statement M
-anchored_spec = tie.close (tie.spec (λ c κs. search rules) (λ c κs. search rules) (λ c. search rules))

@@ -1,0 +1,12 @@
+-- `put_compared_head` writes `compared_head`: its parts, one after the other. Assumes nothing.
+use Rattle.text.proofs.Writing.{◌⨾◌}
+use Rattle.compared_head.specs.Compared.{compared_head}
+use Rattle.compared_head.proofs.put_compared_head.Goals as goal
+
+pub returns : goal.returns
+unfolding compared_head
+returns c =
+    c.put_compared_title-next.ensures ⨾
+    c.put_side-next.ensures ⨾
+    c.put_side-next-2.ensures ⨾
+    c.put.ensures

@@ -1,0 +1,21 @@
+use mathlib.Core.Path.{◌∙◌, ap}
+use Prim.Native.Nat.{◌-◌}
+use borrow.Author.Rules.{rules}
+use lib.ListN.{get_or, set}
+use Rattle.inputs.proofs.Placed.{none_put, none_divided, one_put, one_divided, all_put}
+use Rattle.inputs.proofs.put_places.Goals as goal
+
+pub loop-left-init : goal.loop-left-init
+loop-left-init c = (search rules, search rules, none_divided _ _, none_put c.args.places.now c.args.bytes _)
+
+pub loop-left-preserved : goal.loop-left-preserved
+loop-left-preserved c =
+    let start = c.args in
+    let places = start.places.now in
+    let at = c.loop-left in
+    let some = c.loop-left-test.true in
+    let put = c.put_at.ensures ∙ ap (set at.program (get_or places (at.left - 1) 0)) c.low_byte.ensures in
+    (search rules, search rules, one_divided _ _ _ _ some at.invariant.0 at.invariant.2, one_put places at.left start.bytes at.rest start.program.now _ _ some at.invariant.0 at.invariant.2 at.invariant.3 put)
+
+pub returns : goal.returns
+returns c = all_put c.args.places.now _ _ _ _ c.loop-left-test.false c.loop-left.invariant.3

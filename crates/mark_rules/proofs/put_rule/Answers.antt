@@ -1,0 +1,13 @@
+-- `put_rule` writes `rule_text`. Assumes nothing.
+use Rattle.text.proofs.Writing.{◌⨾◌}
+use Rattle.mark_rules.specs.Rules.{rule_text}
+use Rattle.mark_rules.proofs.put_rule.Goals as goal
+
+pub returns : goal.returns
+unfolding rule_text
+returns c =
+    c.put-next.ensures ⨾
+    c.put_decimal-next.ensures ⨾
+    c.put-next-2.ensures ⨾
+    c.put_decimal-next-2.ensures ⨾
+    c.put.ensures

@@ -1,0 +1,14 @@
+-- `put_turns` writes `turns_text`. Assumes nothing.
+use borrow.Author.Tests.{ne_eqb}
+use Rattle.text.proofs.Writing.{◌⨾◌}
+use Rattle.panel_labels.specs.Labels.{turns_text}
+use Rattle.panel_labels.proofs.put_turns.Goals as goal
+
+pub returns-then-n-eq1 : goal.returns-then-n-eq1
+unfolding turns_text
+returns-then-n-eq1 c = simp c.if-n-eq1.true c.put.ensures
+
+pub returns : goal.returns
+unfolding turns_text
+returns c = simp (ne_eqb _ _ c.if-n-eq1.false) (c.put_decimal-next.ensures ⨾
+    c.put-2.ensures)

@@ -1,0 +1,11 @@
+-- `put_foot` puts `foot_text`: its parts, one after the other. Assumes nothing.
+use Rattle.text.proofs.Writing.{◌⨾◌}
+use Rattle.parameters_page.specs.ParametersPage.{foot_text}
+use Rattle.parameters_page.proofs.put_foot.Goals as goal
+
+pub returns : goal.returns
+unfolding foot_text
+returns c =
+    c.put-next.ensures ⨾
+    c.put_file-next.ensures ⨾
+    c.put.ensures

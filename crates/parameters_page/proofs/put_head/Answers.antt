@@ -1,0 +1,13 @@
+-- `put_head` puts `head_text`: its parts, one after the other. Assumes nothing.
+use Rattle.text.proofs.Writing.{◌⨾◌}
+use Rattle.parameters_page.specs.ParametersPage.{head_text}
+use Rattle.parameters_page.proofs.put_head.Goals as goal
+
+pub returns : goal.returns
+unfolding head_text
+returns c =
+    c.put-next.ensures ⨾
+    c.put_name-next.ensures ⨾
+    c.put-next-2.ensures ⨾
+    c.put_name-next-2.ensures ⨾
+    c.put.ensures

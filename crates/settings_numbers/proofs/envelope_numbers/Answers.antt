@@ -1,0 +1,9 @@
+-- `envelope_numbers` meets its contract. Assumes nothing.
+use mathlib.Core.Path.{refl}
+use Rattle.settings_numbers.specs.Numbers.{settings_numbers, stored_settings, settings_list}
+use Rattle.lists.specs.Padded.{padded}
+use Rattle.settings_numbers.proofs.envelope_numbers.Goals as goal
+
+pub returns : goal.returns
+unfolding settings_numbers stored_settings settings_list padded
+returns c = refl
