@@ -13,11 +13,18 @@ ghost use Rattle.std.specs.Prelude.{◌≡◌, length};
 use program_input::read_full;
 use std::io;
 
+// As many zeros, whose length is told by N and not counted out.
+fn zeros<const N: usize>() -> [u8; N]
+    ensures { N ≡ length result }
+{
+    [0; N]
+}
+
 // Room for the list. The contract gives its length only, which lending it as a slice asks for.
 fn room() -> [u8; 524288]
     ensures { 524288 ≡ length result }
 {
-    [0; 524288]
+    zeros()
 }
 
 fn main(rt: HostRuntime) -> io::Result<()> {
