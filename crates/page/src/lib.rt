@@ -1,4 +1,6 @@
 // A program's sheet as one page of SVG, A4 landscape: the name, a panel for each generator, the arpeggio's gates; and the page of two programs held against each other.
+#![tactic(auto)]
+
 ghost use Rattle.std.specs.Prelude.{◌≡◌, length};
 ghost use Rattle.text.specs.Text.{Puts};
 ghost use Rattle.code_bytes.specs.Bytes.{block_length};

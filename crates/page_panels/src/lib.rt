@@ -1,4 +1,6 @@
 // The panels of a page that have a code: one for each, in the order of their numbers, at a number of turns for the sampled shapes.
+#![tactic(auto)]
+
 ghost use Rattle.std.specs.Prelude.{◌≡◌, ◌<◌, length};
 ghost use Rattle.text.specs.Text.{Puts};
 ghost use Rattle.code_bytes.specs.Bytes.{block_length};
