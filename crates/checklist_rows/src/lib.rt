@@ -1,5 +1,7 @@
 // Four rows of the checklist: the empty program, every shape byte, both edges, and slew at 1 and at 255. A row's trials are numbered; what each compares is a function of its
 // number.
+#![tactic(auto)]
+
 mod empty;
 
 ghost use Rattle.std.specs.Prelude.{◌≡◌};

@@ -1,4 +1,6 @@
 // A row of the checklist: each line of the list of exact heights.
+#![tactic(auto)]
+
 ghost use Rattle.std.specs.Prelude.{◌≡◌};
 ghost use Rattle.exact_heights.specs.Exact.{stepped, exact_row};
 
