@@ -1,9 +1,0 @@
--- `edge_bits` is `edge_bits`. Assumes nothing.
-use borrow.Author.Tests.{lt-ltb, le-ltb}
-use Rattle.edge_trials.proofs.edge_bits.Goals as goal
-
-pub returns-then-k-lt5 : goal.returns-then-k-lt5
-returns-then-k-lt5 c = simp (lt-ltb _ _ c.if-k-lt5.true)
-
-pub returns : goal.returns
-returns c = simp (le-ltb _ _ c.if-k-lt5.false)
