@@ -1,7 +1,7 @@
 #!/usr/bin/env python3
 """Gives the repository's own definitions and lemmas the spelling of today's Rattle: functions, lemmas and fields in snake case.
 
-usage: tools/spell_names.py        at the top of the repository, once, after /opt/rattle/port/port.py
+usage: tools/spell_names.py        at the top of the repository, once, after the kit's port.py
 
 A name of our own is one that a file of specs/ or proofs/ declares and that no file imports from a library. Camel case
 (`floorOf`) and dashes (`below-whole`) become snake case (`floor_of`, `below_whole`). A lemma that would have its

@@ -396,11 +396,11 @@ def main():
     if not old:
         return
     with tempfile.TemporaryDirectory() as d:
-        subprocess.run(["rt", "check", "--generated", d, "--old-names"], cwd=root, stdout=open("/tmp/turn-" + crate + ".log", "w"), stderr=subprocess.STDOUT)
+        said = subprocess.run(["rt", "check", "--generated", d, "--old-names"], cwd=root, capture_output=True, text=True)
         try:
             info = json.load(open(os.path.join(d, "names.json")))
         except FileNotFoundError:
-            sys.exit(f"{crate}: the check wrote no names: see /tmp/turn-{crate}.log")
+            sys.exit(f"{crate}: the check wrote no names: {(said.stdout + said.stderr)[-2000:]}")
     for fn, path in sorted(old.items()):
         key = f"Rattle-{crate}-proofs.{fn.replace('/', '.')}.Lts"
         if key not in info:
