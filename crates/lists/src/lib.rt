@@ -1,14 +1,3 @@
-// What writers of arrays share: a count that is never above the most.
+// Lists: a slice written from its start, a list of a fixed length, a table of a function's values, and laws of lists. This crate is theory alone: its definitions are in
+// specs/, its theorems in proofs/.
 #![tactic(auto)]
-
-ghost use Rattle.std.specs.Prelude.{◌≡◌, ◌≤◌, min};
-
-// The smaller of a count and the most that there can be.
-pub fn at_most(count: usize, most: usize) -> usize
-    ensures { (result ≡ min count most) × (result ≤ count) × (result ≤ most) }
-{
-    if count < most {
-        return count;
-    }
-    most
-}

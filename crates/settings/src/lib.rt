@@ -97,18 +97,20 @@ pub fn byte(raw: u8) -> f32
 }
 
 // ---- LFO
-pub fn shape_from(raw: u8) -> LfoShape
-    ensures { result ≡ lfo_shape_of raw }
-{
-    match raw {
-        0 => LfoShape::Sine,
-        1 => LfoShape::Triangle,
-        2 => LfoShape::Square,
-        3 => LfoShape::RampUp,
-        4 => LfoShape::RampDown,
-        5 => LfoShape::SampleAndHold,
-        6 => LfoShape::SampleAndGlide,
-        7..=255 => LfoShape::Sine,
+impl From<u8> for LfoShape {
+    ghost from_gives = { λ raw r. r ≡ lfo_shape_of raw };
+
+    fn from(raw: u8) -> LfoShape {
+        match raw {
+            0 => LfoShape::Sine,
+            1 => LfoShape::Triangle,
+            2 => LfoShape::Square,
+            3 => LfoShape::RampUp,
+            4 => LfoShape::RampDown,
+            5 => LfoShape::SampleAndHold,
+            6 => LfoShape::SampleAndGlide,
+            7..=255 => LfoShape::Sine,
+        }
     }
 }
 
@@ -139,9 +141,10 @@ pub fn turns(sampled: SampledTurns, shape: LfoShape) -> f32
 pub fn lfo_from(shape: u8, slew: u8, sync: u8, unipolar: bool) -> Lfo
     ensures { result ≡ lfo_of shape slew sync unipolar }
 {
+    let shape = LfoShape::from(shape);
     Lfo {
-        shape: shape_from(shape),
-        turns: turns(SampledTurns::Six, shape_from(shape)),
+        shape,
+        turns: turns(SampledTurns::Six, shape),
         slew: byte(slew),
         unipolar,
         synced: sync != 0,
@@ -152,13 +155,9 @@ pub fn lfo_from(shape: u8, slew: u8, sync: u8, unipolar: bool) -> Lfo
 pub fn turned_lfo(sampled: SampledTurns, lfo: Lfo) -> Lfo
     ensures { result ≡ turned_lfo sampled lfo }
 {
-    let shape = lfo.shape;
     Lfo {
-        shape,
-        turns: turns(sampled, shape),
-        slew: lfo.slew,
-        unipolar: lfo.unipolar,
-        synced: lfo.synced,
+        turns: turns(sampled, lfo.shape),
+        ..lfo
     }
 }
 

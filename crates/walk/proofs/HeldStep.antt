@@ -6,7 +6,6 @@ use mathlib.Core.Logic.{inl, inr}
 use Prim.Native.Nat.{ℕ, ◌+◌, ◌*◌, ◌≤◌}
 use native.Mathlib.Nat.{mul-pos, mul-le-mul_right}
 use native.Mathlib.Omega.{arith}
-use lib.Dec.{T}
 use Rattle.exact.specs.Fraction.{Fraction, Defined, ratio, negℚ, minℚ, ◌+ℚ◌, ◌-ℚ◌}
 use Rattle.exact.specs.Value.{Equal, Within}
 use Rattle.exact.proofs.Close.{ring, Close, times}

@@ -21,9 +21,9 @@ pub started : (s : LfoShape) (limit : Float) {level : Float} → level ≡ shape
 unfolding reached_of level_after place_of step_of of_bits of_int neg add mul div
 started s limit e = simp e
 
-pub reached : (s : LfoShape) (limit : Float) (k m : ℕ) {place level : Float} → place ≡ place_of k → level ≡ level_after s limit k → m ≡ k → ◌≡◌ {A = Walk} (record { full = k; place = place; level = level }) (reached_of s limit m)
+pub reached : (s : LfoShape) (limit : Float) (k : ℕ) {place level : Float} → place ≡ place_of k → level ≡ level_after s limit k → ◌≡◌ {A = Walk} (record { full = k; place = place; level = level }) (reached_of s limit k)
 unfolding reached_of
-reached s limit k m a b e = simp (a, b, e)
+reached s limit k a b = simp (a, b)
 
 module _ (s : LfoShape) (limit : Float) (k : ℕ) {w : Walk} (e : w ≡ reached_of s limit k) where
   pub place_reached : w.place ≡ place_of k

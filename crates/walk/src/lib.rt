@@ -66,23 +66,19 @@ pub fn walk_on(shape: LfoShape, limit: f32, walk: Walk, phase: f32) -> Walk
     requires { (walk.full ≤ 65534) × (walk ≡ reached_of shape limit walk.full) }
     ensures { result ≡ reached_of shape limit (full_on phase walk.full) }
 {
-    let mut full = walk.full;
-    let mut previous = walk.place;
-    let mut level = walk.level;
-    while full < MOST {
+    let mut on = walk;
+    for full in walk.full..MOST {
         let at = place(full + 1);
         if phase <= at {
             break;
         }
-        level = moved(shape, limit, previous, at, level);
-        previous = at;
-        full += 1;
+        on = Walk {
+            full: full + 1,
+            place: at,
+            level: moved(shape, limit, on.place, at, on.level),
+        };
     }
-    Walk {
-        full,
-        place: previous,
-        level,
-    }
+    on
 }
 
 // The height at a phase that the next step reaches: that step, cut there. The walk stays where it is.

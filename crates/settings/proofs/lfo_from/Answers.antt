@@ -4,5 +4,4 @@ use Rattle.settings.proofs.lfo_from.Goals as goal
 
 pub returns : goal.returns
 unfolding lfo_of
-returns c =
-    simp (c.byte.ensures, c.turns.ensures, c.shape_from-2.ensures, c.shape_from.ensures)
+returns c = simp (c.byte.ensures, c.turns.ensures, c.from-shape.ensures)

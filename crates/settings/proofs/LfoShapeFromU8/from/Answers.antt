@@ -1,7 +1,7 @@
--- `shape_from` is `lfo_shape_of`: an arm for each shape, and one for the bytes that name none. Assumes nothing.
+-- `from` is `lfo_shape_of`: an arm for each shape, and one for the bytes that name none. Assumes nothing.
 use borrow.Author.Tests.{ne_eqb}
 use Rattle.settings.specs.Settings.{lfo_shape_of}
-use Rattle.settings.proofs.shape_from.Goals as goal
+use Rattle.settings.proofs.LfoShapeFromU8.from.Goals as goal
 
 pub returns-in-0 : goal.returns-in-0
 unfolding lfo_shape_of
