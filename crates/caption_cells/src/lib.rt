@@ -4,7 +4,6 @@
 ghost use Rattle.std.specs.Prelude.{◌≡◌, ◌+◌, ◌≤◌, ◌<◌};
 ghost use Rattle.caption_cells.specs.Cells.{before_of, samples_before, start_of, cell_end};
 
-use lists::at_most;
 use panel_line::SAMPLES;
 
 // The width of a frame, that of a sample's step across it, and the least width of a cell, which a letter fits in; in hundredths of a millimetre.
@@ -29,10 +28,8 @@ fn samples_before(captions: &[u8; SAMPLES], k: u8) -> usize
     ensures { (result ≡ samples_before k captions.now 501) × (result ≤ 501) }
 {
     let mut count: usize = 0;
-    let mut i: usize = 0;
-    while i < SAMPLES {
-        count += counted(captions[i], k);
-        i += 1;
+    for caption in captions {
+        count += counted(*caption, k);
     }
     count
 }
@@ -41,7 +38,7 @@ fn samples_before(captions: &[u8; SAMPLES], k: u8) -> usize
 pub fn start_of(captions: &[u8; SAMPLES], k: u8) -> u64
     ensures { (result ≡ start_of captions.now k) × (result ≤ 5000) }
 {
-    at_most(STEP * samples_before(captions, k), FRAME) as u64
+    (STEP * samples_before(captions, k)).min(FRAME) as u64
 }
 
 // The right edge of segment k's cell, and `left` where it has none.

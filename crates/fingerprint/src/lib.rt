@@ -30,10 +30,8 @@ fn take_byte(r: u32, b: u8) -> u32
     ensures { result ≡ after_byte r b }
 {
     let mut s = xor(r, b as u32);
-    let mut i: usize = 0;
-    while i < 8 {
+    for _ in 0..8u8 {
         s = step(s);
-        i += 1;
     }
     s
 }
@@ -43,10 +41,8 @@ pub fn crc32(bytes: &[u8]) -> u32
     ensures { result ≡ crc32_of bytes.now }
 {
     let mut r: u32 = ONES;
-    let mut i: usize = 0;
-    while i < bytes.len() {
-        r = take_byte(r, bytes[i]);
-        i += 1;
+    for b in bytes {
+        r = take_byte(r, *b);
     }
     xor(r, ONES)
 }

@@ -4,76 +4,51 @@
 ghost use Rattle.std.specs.Prelude.{◌≡◌, ◌≤◌, length, drop};
 ghost use Rattle.hex_reading.specs.Reading.{digit_of, read_after, read_of};
 
-// What a text stands for.
-#[derive(Clone, Copy)]
-pub enum Pattern {
-    Bits(u32),
-    NotAPattern,
-}
-
 // The length of `0x` and of the fewest and the most digits behind it.
 const FEWEST: usize = 2 + 1;
 
 const MOST: usize = 2 + 8;
 
-// The value of a hexadecimal digit, and 16 for any other byte.
-fn digit(c: u8) -> u32
-    ensures { (result ≡ digit_of c) × (result ≤ 16) }
+// The value of a hexadecimal digit.
+fn digit(c: u8) -> Option<u32>
+    ensures { result ≡ digit_of c }
 {
-    if c < 48 {
-        return 16;
+    match c {
+        b'0'..=b'9' => Some((c - 48) as u32),
+        b'A'..=b'F' => Some((c - 55) as u32),
+        b'a'..=b'f' => Some((c - 87) as u32),
+        _ => None,
     }
-    if c < 58 {
-        return (c - 48) as u32;
-    }
-    if c < 65 {
-        return 16;
-    }
-    if c < 71 {
-        return (c - 55) as u32;
-    }
-    if c < 97 {
-        return 16;
-    }
-    if c < 103 {
-        return (c - 87) as u32;
-    }
-    16
 }
 
 // The digits from the third byte on.
-fn read_digits(text: &[u8]) -> Pattern
+fn read_digits(text: &[u8]) -> Option<u32>
     requires { (2 ≤ length text.now) × (length text.now ≤ 10) }
     ensures { result ≡ read_after 0 (drop 2 text.now) }
 {
     let mut value: u32 = 0;
-    let mut i: usize = 2;
-    while i < text.len() {
-        let d = digit(text[i]);
-        if 15 < d {
-            return Pattern::NotAPattern;
-        }
+    for &c in &text[2..] {
+        let d = digit(c)?;
         value = value * 16 + d;
-        i += 1;
     }
-    Pattern::Bits(value)
+    Some(value)
 }
 
 // The pattern of `0x` and one to eight digits.
-pub fn read_pattern(text: &[u8]) -> Pattern
+pub fn read_pattern(text: &[u8]) -> Option<u32>
     ensures { result ≡ read_of text.now }
 {
     if text.len() < FEWEST {
-        return Pattern::NotAPattern;
+        return None;
     }
     if MOST < text.len() {
-        return Pattern::NotAPattern;
+        return None;
     }
     if text[0] != b'0' {
-        return Pattern::NotAPattern;
+        return None;
     }
     if text[1] != b'x' {
-        return Pattern::NotAPattern;
+        return None;
     }
     read_digits(text)
 }

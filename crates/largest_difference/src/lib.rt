@@ -41,11 +41,9 @@ pub fn find_largest(old: &[f32], new: &[f32]) -> Largest
         size: 0.0,
         index: 0,
     };
-    let mut i: usize = 0;
-    while i < SAMPLES {
+    for i in 0..SAMPLES {
         let size = difference(old, new, i);
         found = larger(found, size, i as u16);
-        i += 1;
     }
     found
 }

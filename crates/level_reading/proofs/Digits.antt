@@ -12,8 +12,7 @@ use lib.Dec.{ltb, ltb→lt}
 use lib.ListN.{length, drop, get_or, length-drop, drop_of_length-le}
 use lib.Seq.{drop-cons}
 use Rattle.numerals.specs.Spelled.{number_of}
-use Rattle.decimal_reading.specs.declared.Number.{Number}
-use Rattle.decimal_reading.specs.declared.Number.TheVariants.{Value, NotANumber}
+use Rattle.std.specs.Prelude.{Option, Some, None}
 use Rattle.decimal_reading.specs.Reading.{read_after}
 use Rattle.level_reading.specs.Digits.{AreDigits, all_digits}
 
@@ -94,28 +93,28 @@ digits_each (c ∷ text) e (suc i) h = digits_each text (digits_front c text e).
 
 -- ---- what a text reads as
 pub read_all : (m : ℕ) (text : List ℕ) → all_digits text ≡ true
-    → read_after m text ≡ Value (m * 10 ^ length text + number_of text)
+    → read_after m text ≡ Some (m * 10 ^ length text + number_of text)
 unfolding read_after number_of
-read_all m [] e = ap Value (alone m)
+read_all m [] e = ap Some (alone m)
   where
     alone : (m : ℕ) → m ≡ m * 1 + 0
     alone m = omega arith
 read_all m (c ∷ text) e =
     let s = digits_front c text e in
     rw (le-ltb c 48 s.0, le-ltb 57 c s.1, pow-suc 10 (length text))
-    (read_all (m * 10 + (c - 48)) text s.2 ∙ ap Value (join m (c - 48) (10 ^ length text) (number_of text)))
+    (read_all (m * 10 + (c - 48)) text s.2 ∙ ap Some (join m (c - 48) (10 ^ length text) (number_of text)))
   where
     join : (m d p n : ℕ) → (m * 10 + d) * p + n ≡ m * (p * 10) + (d * p + n)
     join m d p n = omega arith
 
-pub read_other : (m : ℕ) (text : List ℕ) → all_digits text ≡ false → read_after m text ≡ NotANumber
+pub read_other : (m : ℕ) (text : List ℕ) → all_digits text ≡ false → read_after m text ≡ None
 unfolding read_after all_digits
 read_other m [] e = absurd (true≢false e)
 read_other m (c ∷ text) e =
     let n = m * 10 + (c - 48) in go (ltb c 48) (ltb 57 c) e (read_after n text) (read_other n text)
   where
-    go : (a b : Bool) → cond a false (cond b false (all_digits text)) ≡ false → (r : Number)
-        → (all_digits text ≡ false → r ≡ NotANumber) → cond a NotANumber (cond b NotANumber r) ≡ NotANumber
+    go : (a b : Bool) → cond a false (cond b false (all_digits text)) ≡ false → (r : Option ℕ)
+        → (all_digits text ≡ false → r ≡ None) → cond a None (cond b None r) ≡ None
     go true b e r f = refl
     go false true e r f = refl
     go false false e r f = f e

@@ -4,12 +4,11 @@ use mathlib.Core.List.{List, [], ◌∷◌, ◌++◌}
 use Prim.Native.Nat.{ℕ}
 use lib.Dec.{T, eqb}
 use lib.ListN.{replicate}
-use lib.Ieee.{binary32, round, to_bits}
+use lib.Ieee.{Float, binary32, round, to_bits}
 use Rattle.lists.proofs.Rows.{all_pass}
 use Rattle.text.specs.Text.{ascii}
 use Rattle.decimal_reading.specs.Reading.{read_after}
-use Rattle.level_reading.specs.declared.LevelRead.{LevelRead}
-use Rattle.level_reading.specs.declared.LevelRead.TheVariants.{Level, NotALevel}
+use Rattle.std.specs.Prelude.{Option, Some, None}
 use Rattle.level_reading.specs.Reading.{level_over, level_of}
 
 -- Half of the smallest f32, to its last place.
@@ -39,9 +38,9 @@ rows =
     ∷ (ascii "0." ++ replicate 160 57, 0x3f80_0000)
     ∷ []
 
-is : LevelRead → ℕ → Bool
-is (Level x) b = eqb (to_bits binary32 x) b
-is NotALevel b = false
+is : Option Float → ℕ → Bool
+is (Some x) b = eqb (to_bits binary32 x) b
+is None b = false
 
 reads : List ℕ × ℕ → Bool
 unfolding is
@@ -65,9 +64,9 @@ others =
     ∷ (ascii "0." ++ replicate 161 57)
     ∷ []
 
-is_none : LevelRead → Bool
-is_none (Level x) = false
-is_none NotALevel = true
+is_none : Option Float → Bool
+is_none (Some x) = false
+is_none None = true
 
 none : List ℕ → Bool
 unfolding is_none

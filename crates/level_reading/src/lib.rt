@@ -13,13 +13,6 @@ ghost use Rattle.level_reading.specs.Reading.{level_over, level_of};
 
 use float_bits::float_of;
 
-// What a text stands for.
-#[derive(Clone, Copy)]
-pub enum LevelRead {
-    Level(f32),
-    NotALevel,
-}
-
 // The most places that are read. An f32 from 0 to 1 has 149 at most, and what lies midway between two has 150.
 const MAX_PLACES: usize = 160;
 
@@ -33,15 +26,13 @@ const BINARY_PLACES: u32 = 149;
 fn all_digits(text: &[u8]) -> bool
     ensures { result ≡ all_digits text.now }
 {
-    let mut i: usize = 0;
-    while i < text.len() {
-        if text[i] < b'0' {
+    for &c in text {
+        if c < b'0' {
             return false;
         }
-        if b'9' < text[i] {
+        if b'9' < c {
             return false;
         }
-        i += 1;
     }
     true
 }
@@ -50,12 +41,10 @@ fn all_zeros(digits: &[u8]) -> bool
     requires { AreDigits digits.now }
     ensures { result ≡ eqb (number_of digits.now) 0 }
 {
-    let mut i: usize = 0;
-    while i < digits.len() {
-        if digits[i] != b'0' {
+    for &c in digits {
+        if c != b'0' {
             return false;
         }
-        i += 1;
     }
     true
 }
@@ -66,9 +55,7 @@ fn double(digits: &mut [u8]) -> u32
     ensures { Doubled digits.old digits.new result }
 {
     let mut carry: u8 = 0;
-    let mut i = digits.len();
-    while 0 < i {
-        i -= 1;
+    for i in (0..digits.len()).rev() {
         let twice = (digits[i] - b'0') * 2 + carry;
         digits[i] = b'0' + twice % 10;
         carry = twice / 10;
@@ -97,6 +84,7 @@ fn rounded(digits: &mut [u8]) -> f32
     ensures { result ≡ round binary32 false (number_of digits.old) (10 ^ length digits.old) }
 {
     let mut kept: u32 = 0;
+    // Counted by hand, which is no less plain than a for: how many places are left is wanted after the loop.
     let mut left: u32 = BINARY_PLACES;
     while 0 < left && kept < FIELD {
         kept = kept * 2 + double(digits);
@@ -118,40 +106,40 @@ fn rounded_copy(places: &[u8]) -> f32
 
 // ---- reading
 // The level of a whole digit and of places.
-fn read_digits(whole: u8, places: &[u8]) -> LevelRead
+fn read_digits(whole: u8, places: &[u8]) -> Option<f32>
     requires { length places.now ≤ 160 }
     ensures { result ≡ level_over (length places.now) (read_after 0 (whole ∷ places.now)) }
 {
     if !all_digits(places) {
-        return LevelRead::NotALevel;
+        return None;
     }
     if whole == b'0' {
-        return LevelRead::Level(rounded_copy(places));
+        return Some(rounded_copy(places));
     }
     if whole != b'1' {
-        return LevelRead::NotALevel;
+        return None;
     }
     if !all_zeros(places) {
-        return LevelRead::NotALevel;
+        return None;
     }
-    LevelRead::Level(1.0)
+    Some(1.0)
 }
 
 // The level of one digit; or of one digit, a point and places.
-pub fn read_level(text: &[u8]) -> LevelRead
+pub fn read_level(text: &[u8]) -> Option<f32>
     ensures { result ≡ level_of text.now }
 {
     if text.len() == 0 {
-        return LevelRead::NotALevel;
+        return None;
     }
     if text.len() == 1 {
         return read_digits(text[0], &text[1..]);
     }
     if text[1] != b'.' {
-        return LevelRead::NotALevel;
+        return None;
     }
     if MAX_PLACES + 2 < text.len() {
-        return LevelRead::NotALevel;
+        return None;
     }
     read_digits(text[0], &text[2..])
 }

@@ -2,7 +2,7 @@
 use mathlib.Core.Path.{◌≡◌, refl, ap, ◌∙◌}
 use mathlib.Core.List.{List, [], ◌∷◌, ◌++◌, append-nil, append_assoc}
 use mathlib.Core.Bool.{true, false}
-use Prim.Native.Nat.{ℕ, zero, suc, ◌+◌, ◌-◌, ◌≤◌, ◌<◌}
+use Prim.Native.Nat.{ℕ, zero, suc, ◌+◌, ◌-◌, ◌≤◌}
 use native.Mathlib.Numerals.{add-one}
 use native.Mathlib.Omega.{arith}
 use lib.IntN.{pos}
@@ -37,19 +37,19 @@ pushed_all_stored ks (l ∷ ls) = ap (λ (m : Marks). pushed_all m ls) (pushed_s
 pub push_list : (ks ls : List Mark) {m r : Marks} → m ≡ stored ks → r ≡ pushed_all m ls → r ≡ stored (ks ++ ls)
 push_list ks ls e h = h ∙ (ap (λ (z : Marks). pushed_all z ls) e ∙ pushed_all_stored ks ls)
 
--- ---- the cycles from the one after c on
-pub cycles_end : (turns : Float) (m : Marks) (c : ℕ) → c < 255 → lt turns (of_int binary32 (pos (c + 1))) ≡ true → m ≡ pushed_all m (cycles_from turns (255 - c) (c + 1))
+-- ---- the cycles from the one numbered c on
+pub cycles_end : (turns : Float) (m : Marks) (c : ℕ) → c ≤ 255 → lt turns (of_int binary32 (pos c)) ≡ true → m ≡ pushed_all m (cycles_from turns (256 - c) c)
 unfolding cycles_from pushed_all
-cycles_end turns m c l e = let s : 255 - c ≡ suc (254 - c) = omega arith in simp (s, e)
+cycles_end turns m c l e = let s : 256 - c ≡ suc (255 - c) = omega arith in simp (s, e)
 
-pub cycles_next : (turns : Float) (m : Marks) (c : ℕ) → c < 255 → lt turns (of_int binary32 (pos (c + 1))) ≡ false →
-    pushed_all (pushed m (cycle_mark turns (c + 1))) (cycles_from turns (255 - (c + 1)) (c + 1 + 1)) ≡ pushed_all m (cycles_from turns (255 - c) (c + 1))
+pub cycles_next : (turns : Float) (m : Marks) (c : ℕ) {r : Marks} → c ≤ 255 → lt turns (of_int binary32 (pos c)) ≡ false → r ≡ pushed m (cycle_mark turns c) →
+    pushed_all r (cycles_from turns (256 - (c + 1)) (c + 1)) ≡ pushed_all m (cycles_from turns (256 - c) c)
 unfolding cycles_from pushed_all
-cycles_next turns m c l e = let s : 255 - c ≡ suc (255 - suc c) = omega arith in simp (add-one, s, simp add-one at e)
+cycles_next turns m c l e p = let s : 256 - c ≡ suc (256 - suc c) = omega arith in simp (add-one, p, s, e)
 
-pub cycles_done : (turns : Float) (m : Marks) (c : ℕ) → 255 ≤ c → m ≡ pushed_all m (cycles_from turns (255 - c) (c + 1))
+pub cycles_done : (turns : Float) (m : Marks) (c : ℕ) → 255 ≤ c → m ≡ pushed_all m (cycles_from turns (256 - (c + 1)) (c + 1))
 unfolding cycles_from pushed_all
-cycles_done turns m c l = let s : 255 - c ≡ 0 = omega arith in simp s
+cycles_done turns m c l = let s : 256 - (c + 1) ≡ 0 = omega arith in simp s
 
 -- ---- how many are stored
 count_at_most : (n : ℕ) (ks : List Mark) → count_of n ks ≤ n

@@ -91,9 +91,7 @@ pub fn cycles(marks: Marks, turns: f32) -> Marks
     ensures { result ≡ pushed_all marks (cycles_of turns) }
 {
     let mut ends = marks;
-    let mut count: u8 = 0;
-    while count < 255 {
-        count += 1;
+    for count in 1..=255u8 {
         let cycle = count as f32;
         if cycle > turns {
             return ends;

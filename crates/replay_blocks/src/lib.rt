@@ -30,11 +30,9 @@ pub fn drawn_block(seed: u32, most: u8) -> [u8; BLOCK]
 {
     let mut block = [0u8; BLOCK];
     let mut s = seed as u64 % MODULUS;
-    let mut i: usize = 0;
-    while i < BLOCK {
+    for place in &mut block {
         s = next(s);
-        block[i] = byte_of(s, most);
-        i += 1;
+        *place = byte_of(s, most);
     }
     block
 }

@@ -8,7 +8,6 @@ ghost use Rattle.taps.specs.Formula.{used_of};
 ghost use Rattle.tap_marks.specs.Marks.{tap_marks};
 
 use generator::Scale;
-use lists::at_most;
 use marks::{MarkKind, Marks, no_marks, push};
 use taps::{MAX_TAPS, Taps};
 
@@ -16,12 +15,10 @@ use taps::{MAX_TAPS, Taps};
 pub fn taps_marks(taps: Taps) -> Marks
     ensures { result ≡ stored (tap_marks taps (used_of taps)) }
 {
-    let count = at_most(taps.used, MAX_TAPS);
+    let count = taps.used.min(MAX_TAPS);
     let mut marks = no_marks();
-    let mut i: usize = 0;
-    while i < count {
-        marks = push(marks, taps.at[i], MarkKind::Tap);
-        i += 1;
+    for at in &taps.at[..count] {
+        marks = push(marks, *at, MarkKind::Tap);
     }
     marks
 }

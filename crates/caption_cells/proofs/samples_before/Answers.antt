@@ -5,15 +5,18 @@ use borrow.Author.Rules.{rules}
 use Rattle.caption_cells.specs.Cells.{samples_before}
 use Rattle.caption_cells.proofs.samples_before.Goals as goal
 
-pub loop-i-init : goal.loop-i-init
+pub loop-caption-init : goal.loop-caption-init
 unfolding samples_before
-loop-i-init c = (search rules, search rules, refl)
+loop-caption-init c = (search rules, refl)
 
-pub loop-i-preserved : goal.loop-i-preserved
+pub loop-caption-preserved : goal.loop-caption-preserved
 unfolding samples_before
-loop-i-preserved c = (search rules, omega (arith, c.counted-count.ensures.1, c.loop-i.invariant.1), rw add-one (simp (c.counted-count.ensures.0, c.loop-i.invariant.2)))
+loop-caption-preserved c =
+    let i = c.loop-caption.invariant in
+    (omega (arith, c.counted-count.ensures.1, i.0), rw add-one (simp (c.counted-count.ensures.0, i.1)))
 
 pub returns : goal.returns
 returns c =
-    let e : c.loop-i.i ≡ 501 = omega arith in
-    (rw e at c.loop-i.invariant.2, rw e at c.loop-i.invariant.1)
+    let i = c.loop-caption.invariant in
+    let e : c.loop-caption.caption-index ≡ 501 = omega arith in
+    (rw e at i.1, rw e at i.0)

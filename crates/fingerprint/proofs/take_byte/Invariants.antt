@@ -1,11 +1,8 @@
--- `take_byte` is `after_byte`. The loop's invariant: the first i bits have fallen out. Assumes nothing.
+-- `take_byte` is `after_byte`. The loop's invariant: as many bits have fallen out as were counted. Assumes nothing.
 use mathlib.Core.Path.{◌≡◌}
-use Prim.Native.Nat.{◌-◌, ◌≤◌}
+use Prim.Native.Nat.{◌≤◌}
 use Rattle.fingerprint.specs.Crc32.{xor32, steps_of}
 use Rattle.fingerprint.proofs.take_byte.Given as goal
 
-abbrev pub invariant-loop-i : goal.invariant-loop-i
-invariant-loop-i l = (l.i ≤ 8) × (l.s ≡ steps_of l.i (xor32 l.r l.b))
-
-abbrev pub decreases-loop-i : goal.decreases-loop-i
-decreases-loop-i l = 8 - l.i
+abbrev pub invariant-loop : goal.invariant-loop
+invariant-loop l = (l.counter ≤ 8) × (l.s ≡ steps_of l.counter (xor32 l.r l.b))

@@ -1,53 +1,57 @@
--- `digit` is `digit_of`. Assumes nothing.
-use borrow.Author.Rules.{rules}
+-- `digit` is `digit_of`: the three kinds of digits, and what lies below, between and above them. Assumes nothing.
+use native.Mathlib.Omega.{arith}
 use borrow.Author.Tests.{lt-ltb, le-ltb}
 use Rattle.hex_reading.specs.Reading.{digit_of}
 use Rattle.hex_reading.proofs.digit.Goals as goal
 
-pub returns-then-c-lt48 : goal.returns-then-c-lt48
+pub returns-in-48-to-57 : goal.returns-in-48-to-57
 unfolding digit_of
-returns-then-c-lt48 c = (simp (lt-ltb _ _ c.if-c-lt48.true), search rules)
+returns-in-48-to-57 c = simp (le-ltb c.args.c 48 (omega arith), lt-ltb c.args.c 58 (omega arith))
 
-pub overflow_cast-result : goal.overflow_cast-result
+pub returns-in-65-to-70 : goal.returns-in-65-to-70
 unfolding digit_of
-overflow_cast-result c = search rules
+returns-in-65-to-70 c =
+    simp (le-ltb c.args.c 48 (omega arith), le-ltb c.args.c 58 (omega arith), le-ltb c.args.c 65 (omega arith), lt-ltb c.args.c 71 (omega arith))
 
-pub returns-then-c-lt58 : goal.returns-then-c-lt58
+pub returns-in-97-to-102 : goal.returns-in-97-to-102
 unfolding digit_of
-returns-then-c-lt58 c = (simp (le-ltb _ _ c.if-c-lt48.false, lt-ltb _ _ c.if-c-lt58.true), search rules)
+returns-in-97-to-102 c =
+    simp (
+      le-ltb c.args.c 48 (omega arith),
+      le-ltb c.args.c 58 (omega arith),
+      le-ltb c.args.c 65 (omega arith),
+      le-ltb c.args.c 71 (omega arith),
+      le-ltb c.args.c 97 (omega arith),
+      lt-ltb c.args.c 103 (omega arith),
+    )
 
-pub returns-then-c-lt65 : goal.returns-then-c-lt65
+pub returns-in_default : goal.returns-in_default
 unfolding digit_of
-returns-then-c-lt65 c = (simp (le-ltb _ _ c.if-c-lt48.false, le-ltb _ _ c.if-c-lt58.false, lt-ltb _ _ c.if-c-lt65.true), search rules)
+returns-in_default c = simp (lt-ltb c.args.c 48 (omega arith))
 
-pub overflow_sub-result-then-c-lt71 : goal.overflow_sub-result-then-c-lt71
+pub returns-in_default-2 : goal.returns-in_default-2
 unfolding digit_of
-overflow_sub-result-then-c-lt71 c = search rules
+returns-in_default-2 c = simp (le-ltb c.args.c 48 (omega arith), le-ltb c.args.c 58 (omega arith), lt-ltb c.args.c 65 (omega arith))
 
-pub overflow_cast-result-then-c-lt71 : goal.overflow_cast-result-then-c-lt71
+pub returns-in_default-3 : goal.returns-in_default-3
 unfolding digit_of
-overflow_cast-result-then-c-lt71 c = search rules
+returns-in_default-3 c =
+    simp (
+      le-ltb c.args.c 48 (omega arith),
+      le-ltb c.args.c 58 (omega arith),
+      le-ltb c.args.c 65 (omega arith),
+      le-ltb c.args.c 71 (omega arith),
+      lt-ltb c.args.c 97 (omega arith),
+    )
 
-pub returns-then-c-lt71 : goal.returns-then-c-lt71
+pub returns-in_default-4 : goal.returns-in_default-4
 unfolding digit_of
-returns-then-c-lt71 c = (simp (le-ltb _ _ c.if-c-lt48.false, le-ltb _ _ c.if-c-lt58.false, le-ltb _ _ c.if-c-lt65.false, lt-ltb _ _ c.if-c-lt71.true), search rules)
-
-pub returns-then-c-lt97 : goal.returns-then-c-lt97
-unfolding digit_of
-returns-then-c-lt97 c = (simp (le-ltb _ _ c.if-c-lt48.false, le-ltb _ _ c.if-c-lt58.false, le-ltb _ _ c.if-c-lt65.false, le-ltb _ _ c.if-c-lt71.false, lt-ltb _ _ c.if-c-lt97.true), search rules)
-
-pub overflow_sub-result-then-c-lt103 : goal.overflow_sub-result-then-c-lt103
-unfolding digit_of
-overflow_sub-result-then-c-lt103 c = search rules
-
-pub overflow_cast-result-then-c-lt103 : goal.overflow_cast-result-then-c-lt103
-unfolding digit_of
-overflow_cast-result-then-c-lt103 c = search rules
-
-pub returns-then-c-lt103 : goal.returns-then-c-lt103
-unfolding digit_of
-returns-then-c-lt103 c = (simp (le-ltb _ _ c.if-c-lt48.false, le-ltb _ _ c.if-c-lt58.false, le-ltb _ _ c.if-c-lt65.false, le-ltb _ _ c.if-c-lt71.false, le-ltb _ _ c.if-c-lt97.false, lt-ltb _ _ c.if-c-lt103.true), search rules)
-
-pub returns : goal.returns
-unfolding digit_of
-returns c = (simp (le-ltb _ _ c.if-c-lt48.false, le-ltb _ _ c.if-c-lt58.false, le-ltb _ _ c.if-c-lt65.false, le-ltb _ _ c.if-c-lt71.false, le-ltb _ _ c.if-c-lt97.false, le-ltb _ _ c.if-c-lt103.false), search rules)
+returns-in_default-4 c =
+    simp (
+      le-ltb c.args.c 48 (omega arith),
+      le-ltb c.args.c 58 (omega arith),
+      le-ltb c.args.c 65 (omega arith),
+      le-ltb c.args.c 71 (omega arith),
+      le-ltb c.args.c 97 (omega arith),
+      le-ltb c.args.c 103 (omega arith),
+    )

@@ -1,15 +1,14 @@
 use mathlib.Core.Path.{refl}
 use Rattle.largest_difference.specs.Largest.{largest_of}
 use Rattle.largest_difference.proofs.Steps.{largest_more, whole_strip}
-use borrow.Author.Rules.{rules}
 use Rattle.largest_difference.proofs.find_largest.Goals as goal
 
 pub loop-i-init : goal.loop-i-init
 unfolding largest_of
-loop-i-init c = (search rules, refl)
+loop-i-init c = refl
 
 pub loop-i-preserved : goal.loop-i-preserved
-loop-i-preserved c = (search rules, largest_more _ _ _ _ _ _ c.loop-i.invariant.1 c.difference-size.ensures c.larger-found.ensures)
+loop-i-preserved c = largest_more _ _ _ _ _ _ c.loop-i.invariant c.difference-size.ensures c.larger-found.ensures
 
 pub returns : goal.returns
-returns c = whole_strip _ _ _ _ _ c.loop-i.invariant.0 c.loop-i-test.false c.loop-i.invariant.1
+returns c = whole_strip _ _ _ _ _ c.loop-i.auto.i-end c.loop-i-test.false c.loop-i.invariant

@@ -1,11 +1,7 @@
 -- `find_largest` is `largest_of` all samples. The loop's invariant: it is that of the first i. Assumes nothing.
 use mathlib.Core.Path.{◌≡◌}
-use Prim.Native.Nat.{◌-◌, ◌≤◌}
 use Rattle.largest_difference.specs.Largest.{heights_of, largest_of}
 use Rattle.largest_difference.proofs.find_largest.Given as goal
 
 abbrev pub invariant-loop-i : goal.invariant-loop-i
-invariant-loop-i l = (l.i ≤ 1025) × (l.found ≡ largest_of (heights_of l.old) (heights_of l.new) l.i)
-
-abbrev pub decreases-loop-i : goal.decreases-loop-i
-decreases-loop-i l = 1025 - l.i
+invariant-loop-i l = l.found ≡ largest_of (heights_of l.old) (heights_of l.new) l.i

@@ -1,24 +1,18 @@
 use mathlib.Core.Path.{refl, ◌∙◌}
-use borrow.Author.Rules.{rules}
 use Rattle.level_reading.proofs.Digits.{digits_more, digits_below, digits_above, digits_whole}
 use Rattle.level_reading.proofs.all_digits.Goals as goal
 
-pub loop-i-init : goal.loop-i-init
-loop-i-init c = (search rules, refl)
+pub loop-c-init : goal.loop-c-init
+loop-c-init c = refl
 
-pub returns-then-text-i-lt48 : goal.returns-then-text-i-lt48
-returns-then-text-i-lt48 c =
-    digits_below _ _ c.loop-i-test.true c.if-text-i-lt48.true ∙ c.loop-i.invariant.1
+pub returns-then-c-lt48 : goal.returns-then-c-lt48
+returns-then-c-lt48 c = digits_below _ _ c.loop-c-test.true c.if-c-lt48.true ∙ c.loop-c.invariant
 
-pub returns-then-text-i-gt57 : goal.returns-then-text-i-gt57
-returns-then-text-i-gt57 c =
-    digits_above _ _ c.loop-i-test.true c.if-text-i-lt48.false c.if-text-i-gt57.true ∙ c.loop-i.invariant.1
+pub returns-then-c-gt57 : goal.returns-then-c-gt57
+returns-then-c-gt57 c = digits_above _ _ c.loop-c-test.true c.if-c-lt48.false c.if-c-gt57.true ∙ c.loop-c.invariant
 
-pub loop-i-preserved : goal.loop-i-preserved
-loop-i-preserved c = (
-  search rules,
-  digits_more _ _ c.loop-i-test.true c.if-text-i-lt48.false c.if-text-i-gt57.false ∙ c.loop-i.invariant.1,
-)
+pub loop-c-preserved : goal.loop-c-preserved
+loop-c-preserved c = digits_more _ _ c.loop-c-test.true c.if-c-lt48.false c.if-c-gt57.false ∙ c.loop-c.invariant
 
 pub returns : goal.returns
-returns c = digits_whole _ _ c.loop-i-test.false ∙ c.loop-i.invariant.1
+returns c = digits_whole _ _ c.loop-c-test.false ∙ c.loop-c.invariant

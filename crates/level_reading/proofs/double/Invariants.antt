@@ -4,6 +4,3 @@ use Rattle.level_reading.proofs.double.Given as goal
 
 abbrev pub invariant-loop-i : goal.invariant-loop-i
 invariant-loop-i l = DoubledFrom l.initial.digits l.digits l.i l.carry
-
-abbrev pub decreases-loop-i : goal.decreases-loop-i
-decreases-loop-i l = l.i

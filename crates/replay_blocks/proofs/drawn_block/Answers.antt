@@ -7,15 +7,17 @@ use Rattle.replay_blocks.specs.Drawn.{drawn_block}
 use Rattle.replay_blocks.proofs.Numbers.{none_drawn, one_drawn, byte_drawn}
 use Rattle.replay_blocks.proofs.drawn_block.Goals as goal
 
-pub loop-i-init : goal.loop-i-init
+pub loop-place-init : goal.loop-place-init
 unfolding written
-loop-i-init c = (search rules, search rules, search rules, none_drawn _, refl)
+loop-place-init c = (search rules, search rules, none_drawn _, refl)
 
-pub loop-i-preserved : goal.loop-i-preserved
-loop-i-preserved c =
-    let at = c.loop-i.invariant in
-    (search rules, search rules, search rules, one_drawn _ _ at.3 c.next-s.ensures.0, written_next _ _ _ at.4 (byte_drawn _ _ _ at.3 c.next-s.ensures.0 c.byte_of.ensures))
+pub loop-place-preserved : goal.loop-place-preserved
+loop-place-preserved c =
+    let at = c.loop-place.invariant in
+    (search rules, search rules, one_drawn _ _ at.2 c.next-s.ensures.0, written_next _ _ _ at.3 (byte_drawn _ _ _ at.2 c.next-s.ensures.0 c.byte_of.ensures))
 
 pub returns : goal.returns
 unfolding drawn_block
-returns c = (written_whole _ _ _ _ (le_antisymm c.loop-i.invariant.0 c.loop-i-test.false) c.loop-i.invariant.4, c.loop-i.invariant.1)
+returns c =
+    let at = c.loop-place.invariant in
+    (written_whole _ _ _ _ (le_antisymm c.loop-place.auto.place-index-end c.loop-place-test.false) at.3, at.0)
