@@ -8,10 +8,10 @@ use Rattle.lists.proofs.Rows.{all_pass}
 use Rattle.settings.specs.Settings.{byte_of}
 use Rattle.envelope_settings.specs.Formula.{total_of, first_of, second_of, third_of, envelope_of}
 use Rattle.generator.specs.declared.Shape.TheVariants.{Envelope as AnEnvelope}
-use Rattle.marks.specs.Marks.{segment_number, envelope_marks}
+use Rattle.marks.specs.Marks.{envelope_marks}
 use Rattle.strip.specs.Strip.{sample_position}
 use Rattle.lists.specs.Written.{written}
-use Rattle.captions.specs.Captions.{started_by, segment_from, last_segment, caption_of, caption_at, captions_of}
+use Rattle.captions.specs.Captions.{started_by, segment_from, last_segment, caption_of, captions_of}
 
 same : List ℕ → List ℕ → Bool
 same [] [] = true

@@ -8,7 +8,7 @@ use lib.Ieee.{Float, le}
 use Rattle.exact.specs.Binary32.{zero₃₂}
 use Rattle.settings.specs.declared.Envelope.{Envelope}
 use Rattle.marks.specs.declared.Mark.{Mark}
-use Rattle.marks.specs.Marks.{segment_number, envelope_marks}
+use Rattle.marks.specs.Marks.{envelope_marks}
 use Rattle.strip.specs.Strip.{part_of, sample_position}
 use Rattle.captions.specs.Captions.{started_by, segment_from, last_segment, caption_of}
 

@@ -8,7 +8,7 @@ use lib.ListN.{length}
 use Rattle.generator.specs.declared.Shape.{Shape}
 use Rattle.strip.specs.Strip.{length_fits}
 use Rattle.lists.specs.Written.{written}
-use Rattle.captions.specs.declared.Captioned.TheVariants.{Written, WrongLength}
+use Rattle.std.specs.Prelude.{Ok, Err}
 use Rattle.captions.specs.Captions.{caption_at, answer_of, captions_of}
 
 -- The number of the last sample is one less than that of all.
@@ -18,10 +18,10 @@ caption_here s n i last h e a =
     a ∙ ap (λ (k : ℕ). caption_at s k i) m
 
 -- ---- the answer, and what the slice holds, by the length
-pub refused : (s : Shape) (xs : List ℕ) → length_fits (length xs) ≡ false → (WrongLength ≡ answer_of (length xs)) × (xs ≡ captions_of s xs)
+pub refused : (s : Shape) (xs : List ℕ) → length_fits (length xs) ≡ false → (Err (record {}) ≡ answer_of (length xs)) × (xs ≡ captions_of s xs)
 unfolding answer_of captions_of
 refused s xs h = (simp h, simp h)
 
-pub accepted : (s : Shape) (xs : List ℕ) {ys : List ℕ} → length_fits (length xs) ≡ true → ys ≡ written (caption_at s (length xs)) (length xs) xs → (Written ≡ answer_of (length xs)) × (ys ≡ captions_of s xs)
+pub accepted : (s : Shape) (xs : List ℕ) {ys : List ℕ} → length_fits (length xs) ≡ true → ys ≡ written (caption_at s (length xs)) (length xs) xs → (Ok tt ≡ answer_of (length xs)) × (ys ≡ captions_of s xs)
 unfolding answer_of captions_of
 accepted s xs h r = (simp h, simp (h, r))

@@ -1,5 +1,5 @@
 -- THE CAPTIONS OF A SHAPE'S SAMPLES: docs/SPECIFICATION.md, "Captions". Definitions only.
-use Rattle.std.specs.Prelude.{cond, List, [], ◌∷◌, ℕ, length, Float}
+use Rattle.std.specs.Prelude.{cond, Result, Ok, Err, List, [], ◌∷◌, ℕ, length, Float}
 use Rattle.std.specs.Float.Ieee.{le}
 use Rattle.generator.specs.declared.Shape.{Shape}
 use Rattle.generator.specs.declared.Shape.TheVariants.{Envelope as AnEnvelope, Fade as AFade, Lfo as AnLfo, Filter as AFilter, Oscillator as AnOscillator, Noise as ANoise}
@@ -10,8 +10,7 @@ use Rattle.marks.specs.declared.Mark.{Mark}
 use Rattle.marks.specs.Marks.{segment_number, envelope_marks}
 use Rattle.strip.specs.Strip.{sample_position, length_fits}
 use Rattle.lists.specs.Written.{written}
-use Rattle.captions.specs.declared.Captioned.{Captioned}
-use Rattle.captions.specs.declared.Captioned.TheVariants.{Written, WrongLength}
+use Rattle.captions.specs.declared.WrongLength.{WrongLength}
 
 -- The number of the segment that a mark starts; a mark of another kind leaves the number that it is given.
 unfoldable pub started_by : MarkKind → ℕ → ℕ
@@ -52,8 +51,8 @@ abbrev pub caption_at : Shape → ℕ → ℕ → ℕ
 caption_at s n i = caption_by caption_of s n i
 
 -- What is answered for a slice of n captions: the lengths are those of a strip.
-unfoldable pub answer_of : ℕ → Captioned
-answer_of n = cond (length_fits n) Written WrongLength
+unfoldable pub answer_of : ℕ → Result Unit WrongLength
+answer_of n = cond (length_fits n) (Ok tt) (Err (record {}))
 
 -- What the slice holds afterwards: every caption, or what it held where its length is refused.
 unfoldable pub captions_of : Shape → List ℕ → List ℕ

@@ -21,11 +21,9 @@ const RELEASE: u8 = 3;
 
 pub const NO_CAPTION: u8 = 255;
 
+// The length is not that of a strip.
 #[derive(Clone, Copy)]
-pub enum Captioned {
-    Written,
-    WrongLength,
-}
+pub struct WrongLength;
 
 // The last segment that starts at or before p.
 fn segment_at(e: Envelope, p: f32) -> u8
@@ -71,20 +69,18 @@ fn write_captions(g: Generator, out: &mut [u8])
 {
     let n = out.len();
     let last = (n - 1) as u16;
-    let mut i: usize = 0;
-    while i < n {
+    for i in 0..n {
         out[i] = caption_at(g, i as u16, last);
-        i += 1;
     }
 }
 
 // Writes the caption of each sample. A slice of another length than a strip's is left as it was.
-pub fn captions(g: Generator, out: &mut [u8]) -> Captioned
+pub fn captions(g: Generator, out: &mut [u8]) -> Result<(), WrongLength>
     ensures { (result ≡ answer_of (length out.old)) × (out.new ≡ captions_of g.shape out.old) }
 {
     if !fits(out.len()) {
-        return Captioned::WrongLength;
+        return Err(WrongLength);
     }
     write_captions(g, out);
-    Captioned::Written
+    Ok(())
 }

@@ -10,12 +10,10 @@ ghost use Rattle.code_shapes.specs.Shapes.{shape_of};
 use code_bytes::{NOISE_LEVEL, POLE, RESONANCE};
 use code_settings::{envelope_at, fade_at, lfo_at, oscillator_at};
 use codes::{Code, EnvelopeId, LfoId};
-use envelope_strip::{WIDE_SAMPLES, fill_envelope, fill_wide_envelope};
-use fade_strip::fill_fade;
+use curve_strip::{WIDE_SAMPLES, Wide, fill_curve};
 use generator::Shape;
 use lfo_strip::fill_lfo;
 use settings::{high_pass, low_pass_from, noise_from};
-use tone_strip::{fill_filter, fill_noise, fill_oscillator};
 
 // ---- the strips of envelopes and of LFOs. The settings are made next to their loop: handed on, they would be copied, which waits for the stores that made them.
 fn strip_envelope(block: &[u8], id: EnvelopeId, out: &mut [f32]) -> u32
@@ -23,9 +21,9 @@ fn strip_envelope(block: &[u8], id: EnvelopeId, out: &mut [f32]) -> u32
     ensures { (result ≡ step_sum (shape_of (Code.Envelope id) (byte_at block.now)) (length out.old) (length out.old)) × (out.new ≡ filled_of (shape_of (Code.Envelope id) (byte_at block.now)) (length out.old) (length out.old) out.old) }
 {
     if out.len() < WIDE_SAMPLES {
-        return fill_envelope(envelope_at(block, id), out);
+        return fill_curve(envelope_at(block, id), out);
     }
-    fill_wide_envelope(envelope_at(block, id), out)
+    fill_curve(Wide(envelope_at(block, id)), out)
 }
 
 fn strip_lfo(block: &[u8], id: LfoId, unipolar: bool, out: &mut [f32]) -> u32
@@ -45,12 +43,12 @@ pub fn strip_at(block: &[u8], code: Code, out: &mut [f32]) -> u32
         Code::Lfo(id) => strip_lfo(block, id, false, out),
         Code::LfoUnipolar(id) => strip_lfo(block, id, true, out),
         Code::Fade(id) => match id {
-            LfoId::One => fill_fade(fade_at(block, LfoId::One), out),
-            LfoId::Two => fill_fade(fade_at(block, LfoId::Two), out),
+            LfoId::One => fill_curve(fade_at(block, LfoId::One), out),
+            LfoId::Two => fill_curve(fade_at(block, LfoId::Two), out),
         },
-        Code::LowPass => fill_filter(low_pass_from(block[RESONANCE], block[POLE]), out),
-        Code::HighPass => fill_filter(high_pass(), out),
-        Code::Oscillator(id) => fill_oscillator(oscillator_at(block, id), out),
-        Code::Noise => fill_noise(noise_from(block[NOISE_LEVEL]), out),
+        Code::LowPass => fill_curve(low_pass_from(block[RESONANCE], block[POLE]), out),
+        Code::HighPass => fill_curve(high_pass(), out),
+        Code::Oscillator(id) => fill_curve(oscillator_at(block, id), out),
+        Code::Noise => fill_curve(noise_from(block[NOISE_LEVEL]), out),
     }
 }

@@ -18,7 +18,3 @@ module _ (l : Lfo) (t : Float) where
   pub with_slew : le l.slew zero₃₂ ≡ false → slewed_of l t ≡ height_of (AnLfo l) t
   unfolding height_of lfo_height_of
   with_slew h = simp h
-
-  pub without_steps : le l.slew zero₃₂ ≡ true → (height_of (AnLfo l) t).steps ≡ 0
-  unfolding height_of lfo_height_of drawn_of
-  without_steps h = simp h

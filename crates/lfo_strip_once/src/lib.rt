@@ -7,8 +7,9 @@ ghost use Rattle.exact.specs.Binary32.{zero₃₂};
 ghost use Rattle.strip.specs.Strip.{filled_of};
 ghost use Rattle.lfo_strip_once.specs.Once.{steps_once, forward};
 
+use curve_strip::fill_curve;
 use generator::Shape;
-use lfo_strip::fill_unslewed;
+use lfo_strip::Unslewed;
 use settings::Lfo;
 use strip::{last_of, sample_position};
 use walk::{cut_height, limit_of, start, walk_on};
@@ -24,12 +25,10 @@ fn fill_slewed_once(l: Lfo, out: &mut [f32]) -> u32
     let shape = l.shape;
     let limit = limit_of(l.slew);
     let mut walk = start(shape);
-    let mut i: usize = 0;
-    while i < n {
+    for i in 0..n {
         let phase = sample_position(i as u16, last) * l.turns;
         walk = walk_on(shape, limit, walk, phase);
         out[i] = cut_height(shape, limit, walk, phase);
-        i += 1;
     }
     walk.full as u32 + n as u32
 }
@@ -41,7 +40,7 @@ pub fn fill_lfo_once(l: Lfo, out: &mut [f32]) -> u32
     ensures { (result ≡ steps_once (Shape.Lfo l) (length out.old)) × (out.new ≡ filled_of (Shape.Lfo l) (length out.old) (length out.old) out.old) }
 {
     if l.slew <= 0.0 {
-        return fill_unslewed(l, out);
+        return fill_curve(Unslewed { lfo: l }, out);
     }
     fill_slewed_once(l, out)
 }

@@ -6,12 +6,10 @@ ghost use Rattle.strip.specs.Strip.{filled_of, step_sum};
 ghost use Rattle.lfo_strip_once.specs.Once.{steps_once};
 ghost use Rattle.shape_strip.specs.Forward.{goes_forward};
 
-use envelope_strip::fill_wide_envelope;
-use fade_strip::fill_fade;
+use curve_strip::{Wide, fill_curve};
 use generator::Shape;
 use lfo_strip::fill_lfo;
 use lfo_strip_once::fill_lfo_once;
-use tone_strip::{fill_filter, fill_noise, fill_oscillator};
 
 // A walk for each sample.
 pub fn fill(shape: Shape, out: &mut [f32]) -> u32
@@ -19,12 +17,12 @@ pub fn fill(shape: Shape, out: &mut [f32]) -> u32
     ensures { (result ≡ step_sum shape (length out.old) (length out.old)) × (out.new ≡ filled_of shape (length out.old) (length out.old) out.old) }
 {
     match shape {
-        Shape::Envelope(e) => fill_wide_envelope(e, out),
-        Shape::Fade(f) => fill_fade(f, out),
+        Shape::Envelope(e) => fill_curve(Wide(e), out),
+        Shape::Fade(f) => fill_curve(f, out),
         Shape::Lfo(l) => fill_lfo(l, out),
-        Shape::Filter(f) => fill_filter(f, out),
-        Shape::Oscillator(o) => fill_oscillator(o, out),
-        Shape::Noise(s) => fill_noise(s, out),
+        Shape::Filter(f) => fill_curve(f, out),
+        Shape::Oscillator(o) => fill_curve(o, out),
+        Shape::Noise(n) => fill_curve(n, out),
     }
 }
 
@@ -35,11 +33,7 @@ pub fn fill_once(shape: Shape, out: &mut [f32]) -> u32
     ensures { (result ≡ steps_once shape (length out.old)) × (out.new ≡ filled_of shape (length out.old) (length out.old) out.old) }
 {
     match shape {
-        Shape::Envelope(e) => fill_wide_envelope(e, out),
-        Shape::Fade(f) => fill_fade(f, out),
         Shape::Lfo(l) => fill_lfo_once(l, out),
-        Shape::Filter(f) => fill_filter(f, out),
-        Shape::Oscillator(o) => fill_oscillator(o, out),
-        Shape::Noise(s) => fill_noise(s, out),
+        _ => fill(shape, out),
     }
 }

@@ -1,4 +1,4 @@
-use Prim.Native.Nat.{◌-◌, ◌≤◌}
+use Prim.Native.Nat.{◌≤◌}
 use mathlib.Core.Path.{refl}
 use native.Mathlib.Nat.{le_antisymm}
 use native.Mathlib.Omega.{arith}
@@ -18,9 +18,6 @@ pub loop-i-preserved : goal.loop-i-preserved
 loop-i-preserved c =
     let n : 1 ≤ length c.args.out.now = omega arith in
     (simp length-set c.loop-i.invariant.0, search rules, written_next (caption_at c.args.g.shape _) _ _ c.loop-i.invariant.2 (caption_here c.args.g.shape _ _ _ n refl c.caption_at.ensures))
-
-pub shape_of-out : goal.shape_of-out
-shape_of-out c = c.loop-i.invariant.0
 
 pub returns : goal.returns
 returns c = written_whole (caption_at c.args.g.shape _) _ _ _ (le_antisymm c.loop-i.invariant.1 c.loop-i-test.false) c.loop-i.invariant.2

@@ -1,5 +1,4 @@
 -- `fill_slewed_once` fills the strip, and answers the steps of one walk. The loop's invariant: the first i samples are written, and the walk stands after the full steps of the last of them. Assumes nothing.
-use Prim.Native.Nat.{◌-◌}
 use Rattle.generator.specs.declared.Shape.TheVariants.{Lfo as AnLfo}
 use Rattle.strip.proofs.Filling.{Filled}
 use Rattle.lfo_strip_once.proofs.AlongStrip.{Standing}
@@ -7,6 +6,3 @@ use Rattle.lfo_strip_once.proofs.fill_slewed_once.Given as goal
 
 abbrev pub invariant-loop-i : goal.invariant-loop-i
 invariant-loop-i l = Filled (AnLfo l.l) l.n l.i l.initial.out l.out × Standing l.l l.n l.walk l.i
-
-abbrev pub decreases-loop-i : goal.decreases-loop-i
-decreases-loop-i l = l.n - l.i
