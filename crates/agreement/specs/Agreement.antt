@@ -1,6 +1,7 @@
 -- TWO BLOCKS WITH THE SAME ANSWERS: docs/SPECIFICATION.md, "The block and its codes". A record only.
-use Rattle.std.specs.Prelude.{◌≡◌, List, ℕ, Float}
-use Rattle.block.specs.declared.Chosen.{Chosen}
+use Rattle.refusals.specs.declared.Refusal.{Refusal}
+use Rattle.generator.specs.declared.Generator.{Generator}
+use Rattle.std.specs.Prelude.{◌≡◌, List, ℕ, Float, Result}
 use Rattle.block.specs.Refusals.{height_answer}
 use Rattle.block_strip.specs.Strips.{strip_answer, strip_after}
 use Rattle.block_strip_once.specs.Strips.{strip_once_answer}
@@ -10,7 +11,7 @@ use Rattle.block_generator.specs.Answers.{rest_answer, scale_answer, anchored_an
 use Rattle.block_captions.specs.Answers.{captions_answer, captions_after}
 
 -- What two blocks choose gives the same answers throughout.
-pub record SameAnswers (a b : Chosen) : Type 0 where
+pub record SameAnswers (a b : Result Generator Refusal) : Type 0 where
   pub settings : settings_answer a ≡ settings_answer b
   pub height : (t : Float) → height_answer a t ≡ height_answer b t
   pub steps : (n : ℕ) → strip_answer a n ≡ strip_answer b n

@@ -6,25 +6,24 @@ use mathlib.Core.List.{List}
 use Prim.Native.Nat.{ℕ, ◌+◌, ◌≤◌, ◌<◌}
 use lib.Dec.{T}
 use lib.ListN.{length, get_or}
+use Rattle.std.specs.Prelude.{Some, Result, Ok, Err}
+use Rattle.refusals.specs.declared.Refusal.{Refusal}
+use Rattle.generator.specs.declared.Generator.{Generator}
 use Rattle.generator.specs.Generator.{generator_of}
 use Rattle.strip.specs.Strip.{length_fits}
 use Rattle.strip.proofs.Lengths.{between_fits}
-use Rattle.captions.specs.declared.Captioned.TheVariants.{Written, WrongLength}
+use Rattle.std.specs.Prelude.{Ok, Err}
 use Rattle.captions.specs.Captions.{no_caption, caption_at, answer_of as captioned, captions_of}
 use Rattle.captions.specs.Changes.{former_at}
 use Rattle.captions.proofs.Laws.{captions_length, captions_at}
 use Rattle.captions.proofs.Changed.{caption_changed}
-use Rattle.refusals.specs.declared.Answer.{Answer}
 use Rattle.refusals.specs.Refusals.{accepted, check_block, check_code, check_length, answer_refusal}
 use Rattle.codes.specs.declared.Code.{Code}
 use Rattle.codes.specs.declared.Code.TheVariants.{Envelope, Lfo, LfoUnipolar, Fade, LowPass, HighPass, Oscillator, Noise}
-use Rattle.codes.specs.declared.CodeRead.TheVariants.{Known}
 use Rattle.codes.specs.Codes.{code_of}
 use Rattle.code_bytes.specs.Bytes.{block_length, byte_at, decay_place, sustain_place, release_place, attack_curve_place, decay_curve_place, sustain_curve_place, release_curve_place, envelope_first}
 use Rattle.code_settings.specs.Settings.{envelope_at}
 use Rattle.code_shapes.specs.Shapes.{shape_of}
-use Rattle.block.specs.declared.Chosen.{Chosen}
-use Rattle.block.specs.declared.Chosen.TheVariants.{Generator as AGenerator, Refused}
 use Rattle.block.specs.Refusals.{chosen_of}
 use Rattle.block.proofs.KnownCode.{known_chosen}
 use Rattle.block.proofs.Refused.{refusal_or, chosen_checked}
@@ -36,22 +35,22 @@ captions_checked : (block : List ℕ) (code n : ℕ) → answer_refusal (caption
 unfolding captions_answer captioned_answer captioned refusal_or check_length
 captions_checked block code n = same (chosen_of block code) ∙ chosen_checked (check_length n accepted) block code
   where
-    same : (a : Chosen) → answer_refusal (captions_answer a n) ≡ refusal_or (check_length n accepted) a
-    same (AGenerator g) = go (length_fits n)
+    same : (a : Result Generator Refusal) → answer_refusal (captions_answer a n) ≡ refusal_or (check_length n accepted) a
+    same (Ok g) = go (length_fits n)
       where
-        go : (b : Bool) → answer_refusal (captioned_answer (cond b Written WrongLength)) ≡ cond b accepted 3
+        go : (b : Bool) → answer_refusal (captioned_answer (cond b (Ok tt) (Err (record {})))) ≡ cond b accepted 3
         go true = refl
         go false = refl
-    same (Refused r) = refl
+    same (Err r) = refl
 
 -- ---- they keep their length
-after_length : (a : Chosen) (xs : List ℕ) → length (captions_after a xs) ≡ length xs
+after_length : (a : Result Generator Refusal) (xs : List ℕ) → length (captions_after a xs) ≡ length xs
 unfolding captions_after
-after_length (AGenerator g) xs = captions_length g.shape xs
-after_length (Refused r) xs = refl
+after_length (Ok g) xs = captions_length g.shape xs
+after_length (Err r) xs = refl
 
 -- ---- a block of 242 bytes and a known code have the captions of the code's shape
-filled : (block : List ℕ) (code : ℕ) (xs : List ℕ) (c : Code) → code_of code ≡ Known c → length block ≡ block_length → captions_after (chosen_of block code) xs ≡ captions_of (shape_of c (byte_at block)) xs
+filled : (block : List ℕ) (code : ℕ) (xs : List ℕ) (c : Code) → code_of code ≡ Some c → length block ≡ block_length → captions_after (chosen_of block code) xs ≡ captions_of (shape_of c (byte_at block)) xs
 unfolding captions_after generator_of
 filled block code xs c k l = simp (known_chosen block code c k l)
 
@@ -71,7 +70,7 @@ code_changed (Oscillator id) b h n i k l = refl
 code_changed Noise b h n i k l = refl
 
 -- ---- THE PROMISE
-pub captions_answered : {block : List ℕ} {code : ℕ} {before after : List ℕ} {r : Answer} → ((n : ℕ) → byte_at block n < 256)
+pub captions_answered : {block : List ℕ} {code : ℕ} {before after : List ℕ} {r : Result (Unit {0}) Refusal} → ((n : ℕ) → byte_at block n < 256)
     → r ≡ captions_answer (chosen_of block code) (length before) → after ≡ captions_after (chosen_of block code) before → CaptionsAnswered block code before after r
 captions_answered {block} {code} {before} {after} b e a =
     record {

@@ -1,13 +1,12 @@
 -- WHAT IS PROMISED OF CAPTIONS: docs/SPECIFICATION.md, "Captions" and "What is offered to callers". Definitions only.
-use Rattle.std.specs.Prelude.{◌≡◌, List, ℕ, ◌+◌, ◌<◌, T, length, get_or}
+use Rattle.std.specs.Prelude.{◌≡◌, List, ℕ, ◌+◌, ◌<◌, T, length, get_or, Some, Result}
 use Rattle.strip.specs.Strip.{length_fits}
 use Rattle.captions.specs.Captions.{no_caption, caption_at}
 use Rattle.captions.specs.Changes.{former_at, changed_caption}
-use Rattle.refusals.specs.declared.Answer.{Answer}
+use Rattle.refusals.specs.declared.Refusal.{Refusal}
 use Rattle.refusals.specs.Refusals.{accepted, check_block, check_code, check_length, answer_refusal}
 use Rattle.codes.specs.declared.Code.{Code}
 use Rattle.codes.specs.declared.Code.TheVariants.{Envelope, Lfo, LfoUnipolar, Fade, LowPass, HighPass, Oscillator, Noise}
-use Rattle.codes.specs.declared.CodeRead.TheVariants.{Known}
 use Rattle.codes.specs.Codes.{code_of}
 use Rattle.code_bytes.specs.Bytes.{block_length, byte_at, decay_place, envelope_first}
 use Rattle.code_shapes.specs.Shapes.{shape_of}
@@ -32,9 +31,9 @@ pub record SampleCaptioned (c : Code) (block captions : List ℕ) (i : ℕ) : Ty
 
 -- The answer is that of the formula, refusals included, and so is what the slice holds afterwards; it keeps its length. Captions are refused by the first check that fails,
 -- of which that of their length is the last, and by nothing else. A block of 242 bytes, a known code and a length from 2 to 4,096 are given every sample.
-pub record CaptionsAnswered (block : List ℕ) (code : ℕ) (before after : List ℕ) (r : Answer) : Type 0 where
+pub record CaptionsAnswered (block : List ℕ) (code : ℕ) (before after : List ℕ) (r : Result (Unit {0}) Refusal) : Type 0 where
   pub equation : r ≡ captions_answer (chosen_of block code) (length before)
   pub captions : after ≡ captions_after (chosen_of block code) before
   pub size : length after ≡ length before
   pub refusal : answer_refusal r ≡ check_block (length block) (check_code code (check_length (length before) accepted))
-  pub given : (c : Code) → code_of code ≡ Known c → length block ≡ block_length → T (length_fits (length before)) → (i : ℕ) → i < length before → SampleCaptioned c block after i
+  pub given : (c : Code) → code_of code ≡ Some c → length block ≡ block_length → T (length_fits (length before)) → (i : ℕ) → i < length before → SampleCaptioned c block after i

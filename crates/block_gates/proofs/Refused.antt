@@ -5,21 +5,22 @@ use mathlib.Core.List.{List}
 use Prim.Native.Nat.{ℕ}
 use lib.Dec.{eqb}
 use lib.ListN.{length}
+use Rattle.std.specs.Prelude.{Result, Ok, Err}
+use Rattle.refusals.specs.declared.Refusal.{Refusal}
+use Rattle.refusals.specs.declared.Refusal.TheVariants.{Block}
 use Rattle.refusals.specs.Refusals.{accepted, check_block, answer_refusal}
 use Rattle.code_bytes.specs.Bytes.{block_length}
 use Rattle.gates.specs.declared.Gates.{Gates}
-use Rattle.block_gates.specs.declared.GatesAnswer.{GatesAnswer}
 use Rattle.block_gates.specs.Answers.{of_byte}
 use Rattle.block_gates.specs.Promises.{GatesAnswered}
 
-refused : (given : ℕ → Gates) (block : List ℕ) → answer_refusal (of_byte given block).answer ≡ check_block (length block) accepted
+refused : (given : ℕ → Gates) (block : List ℕ) → answer_refusal (of_byte given block) ≡ check_block (length block) accepted
 unfolding of_byte check_block
-refused given block = go (eqb (length block) block_length) _ _ refl refl
+refused given block = go (eqb (length block) block_length) _
   where
-    go : (b : Bool) (x y : GatesAnswer) → answer_refusal x.answer ≡ accepted → answer_refusal y.answer ≡ 1
-        → answer_refusal (cond b x y).answer ≡ cond b accepted 1
-    go true x y e f = e
-    go false x y e f = f
+    go : (b : Bool) (x : Gates) → answer_refusal (cond b (Ok x) (Err Block)) ≡ cond b accepted 1
+    go true x = refl
+    go false x = refl
 
-pub answered : (given : ℕ → Gates) {block : List ℕ} {r : GatesAnswer} → r ≡ of_byte given block → GatesAnswered (of_byte given) block r
-answered given {block} e = record { equation = e; refusal = ap (λ (x : GatesAnswer). answer_refusal x.answer) e ∙ refused given block }
+pub answered : (given : ℕ → Gates) {block : List ℕ} {r : Result Gates Refusal} → r ≡ of_byte given block → GatesAnswered (of_byte given) block r
+answered given {block} e = record { equation = e; refusal = ap answer_refusal e ∙ refused given block }

@@ -7,31 +7,19 @@ ghost use Rattle.block_gates.specs.Promises.{GatesAnswered};
 use block::BLOCK;
 use code_bytes::GATE_TIME;
 use gates::{Gates, arpeggiator_gates};
-use refusals::{Answer, Refusal};
+use refusals::Refusal;
 
-#[derive(Clone, Copy)]
-pub struct GatesAnswer {
-    pub answer: Answer,
-    pub gates: Gates,
-}
-
-pub fn gates(block: &[u8]) -> GatesAnswer
+pub fn gates(block: &[u8]) -> Result<Gates, Refusal>
     ensures { GatesAnswered gates_answer block.now result }
 {
     if block.len() != BLOCK {
-        return GatesAnswer {
-            answer: Answer::Refused(Refusal::Block),
-            gates: arpeggiator_gates(0),
-        };
+        return Err(Refusal::Block);
     }
-    GatesAnswer {
-        answer: Answer::Accepted,
-        gates: arpeggiator_gates(block[GATE_TIME]),
-    }
+    Ok(arpeggiator_gates(block[GATE_TIME]))
 }
 
 // Each gate is a bar of its own.
-pub fn bars(block: &[u8]) -> GatesAnswer
+pub fn bars(block: &[u8]) -> Result<Gates, Refusal>
     ensures { GatesAnswered bars_answer block.now result }
 {
     gates(block)

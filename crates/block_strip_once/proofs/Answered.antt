@@ -9,6 +9,9 @@ use lib.Dec.{T}
 use lib.ListN.{length}
 use lib.Ieee.{Float, binary32, fits, le}
 use lib.Ieee.Bits.{is_true, is_false}
+use Rattle.std.specs.Prelude.{Some, Result, Ok, Err}
+use Rattle.refusals.specs.declared.Refusal.{Refusal}
+use Rattle.refusals.specs.Refusals.{answer_refusal}
 use Rattle.exact.specs.Fraction.{Fraction}
 use Rattle.exact.specs.Binary32.{zero₃₂, one₃₂}
 use Rattle.settings.specs.declared.SampledTurns.TheVariants.{Six, Eight}
@@ -28,7 +31,6 @@ use Rattle.lfo_strip_once.proofs.Laws.{one_turn, six_turns, eight_turns}
 use Rattle.walk.specs.Steps.{Steps}
 use Rattle.refusals.specs.declared.Refusal.TheVariants.{Strip}
 use Rattle.codes.specs.declared.Code.{Code}
-use Rattle.codes.specs.declared.CodeRead.TheVariants.{Known}
 use Rattle.codes.specs.Codes.{code_of}
 use Rattle.code_bytes.specs.Bytes.{byte_at, block_length}
 use Rattle.code_shapes.specs.Shapes.{shape_of}
@@ -37,45 +39,39 @@ use Rattle.shape_strip.proofs.Turned.{turned_goes}
 use Rattle.code_heights.specs.Promises.{slewed_code, bound_of, Promised}
 use Rattle.code_heights.proofs.Promised.{slewed}
 use Rattle.code_heights.proofs.EveryCode.{code_slewed, turned_six, block_height}
-use Rattle.block.specs.declared.Chosen.{Chosen}
-use Rattle.block.specs.declared.Chosen.TheVariants.{Generator as AGenerator, Refused}
-use Rattle.block.specs.declared.Settled.{Settled}
-use Rattle.block.specs.declared.Settled.TheVariants.{Known as KnownCode, Refused as NoCode}
 use Rattle.block.specs.Refusals.{settled_of, chosen_by, chosen_of}
 use Rattle.block.proofs.KnownCode.{known_chosen}
-use Rattle.block_strip.specs.declared.StripAnswer.{StripAnswer}
-use Rattle.block_strip.specs.declared.StripAnswer.TheVariants.{Filled as AStrip, Refused as NoStrip}
-use Rattle.block_strip.specs.Strips.{strip_answer, strip_after, strip_refusal}
+use Rattle.block_strip.specs.Strips.{strip_answer, strip_after}
 use Rattle.block_strip.specs.Promises.{StripAnswered}
 use Rattle.block_strip.proofs.Answered.{strip_answered}
 use Rattle.block_strip_once.specs.Strips.{strip_once_answer}
 use Rattle.block_strip_once.specs.Promises.{WalkedOnce, StripOnceAnswered}
 
 -- ---- what is chosen goes forward
-unfoldable pub forward_chosen : Chosen → Bool
-forward_chosen (AGenerator g) = goes_forward g.shape
-forward_chosen (Refused r) = true
+unfoldable pub forward_chosen : Result Generator Refusal → Bool
+forward_chosen (Ok g) = goes_forward g.shape
+forward_chosen (Err r) = true
 
-pub chosen_forward : (block : List ℕ) (code : ℕ) (g : Generator) → chosen_of block code ≡ AGenerator g → goes_forward g.shape ≡ true
+pub chosen_forward : (block : List ℕ) (code : ℕ) (g : Generator) → chosen_of block code ≡ Ok g → goes_forward g.shape ≡ true
 unfolding chosen_of chosen_by generator_of forward_chosen
 chosen_forward block code g e = ap forward_chosen (sym e) ∙ go (settled_of block code)
   where
-    go : (s : Settled) → forward_chosen (chosen_by s (byte_at block)) ≡ true
-    go (KnownCode c) = subst (λ (s : Shape). goes_forward s ≡ true) (turned_six c (byte_at block)) (turned_goes Six (shape_of c (byte_at block)))
-    go (NoCode r) = refl
+    go : (s : Result Code Refusal) → forward_chosen (chosen_by s (byte_at block)) ≡ true
+    go (Ok c) = subst (λ (s : Shape). goes_forward s ≡ true) (turned_six c (byte_at block)) (turned_goes Six (shape_of c (byte_at block)))
+    go (Err r) = refl
 
 -- ---- it is refused where the plain engine refuses
-pub refused_alike : (a : Chosen) (n : ℕ) → strip_refusal (strip_once_answer a n) ≡ strip_refusal (strip_answer a n)
+pub refused_alike : (a : Result Generator Refusal) (n : ℕ) → answer_refusal (strip_once_answer a n) ≡ answer_refusal (strip_answer a n)
 unfolding strip_once_answer strip_answer
-refused_alike (AGenerator g) n = go (length_fits n) _ _
+refused_alike (Ok g) n = go (length_fits n) _ _
   where
-    go : (b : Bool) (k m : ℕ) → strip_refusal (cond b (AStrip k) (NoStrip Strip)) ≡ strip_refusal (cond b (AStrip m) (NoStrip Strip))
+    go : (b : Bool) (k m : ℕ) → answer_refusal (cond b (Ok k) (Err Strip)) ≡ answer_refusal (cond b (Ok m) (Err Strip))
     go true k m = refl
     go false k m = refl
-refused_alike (Refused r) n = refl
+refused_alike (Err r) n = refl
 
 -- ---- a block of 242 bytes, a known code and a length that fits are given the steps
-filled : (block : List ℕ) (code n : ℕ) (c : Code) → code_of code ≡ Known c → length block ≡ block_length → T (length_fits n) → strip_once_answer (chosen_of block code) n ≡ AStrip (steps_once (shape_of c (byte_at block)) n)
+filled : (block : List ℕ) (code n : ℕ) (c : Code) → code_of code ≡ Some c → length block ≡ block_length → T (length_fits n) → strip_once_answer (chosen_of block code) n ≡ Ok (steps_once (shape_of c (byte_at block)) n)
 unfolding strip_once_answer generator_of
 filled block code n c k l t = simp (known_chosen block code c k l, is_true (length_fits n) t)
 
@@ -105,7 +101,7 @@ by_turns (ANoise e) n j x f w h = absurd w
 
 -- ---- THE STEPS, of a shape of whose heights all is promised
 pub walked_once : (s : Shape) (turns : ℕ) (bound : Fraction) → ((t : Float) → T (fits binary32 t) → Promised s (slewed s) turns bound t (height_of s t))
-    → (n : ℕ) → T (length_fits n) → (r : StripAnswer) → r ≡ AStrip (steps_once s n) → WalkedOnce s (slewed s) turns n r
+    → (n : ℕ) → T (length_fits n) → (r : Result ℕ Refusal) → r ≡ Ok (steps_once s n) → WalkedOnce s (slewed s) turns n r
 unfolding steps_once sample_of
 walked_once s turns bound h n t r e =
     record {
@@ -135,20 +131,20 @@ walked_once s turns bound h n t r e =
     few false f g = let e : k ≡ 0 = g tt in omega arith
 
 -- ---- THE PROMISE
-pub strip_once_answered : (block : List ℕ) (code : ℕ) (before after : List Float) (r : StripAnswer) → ((n : ℕ) → byte_at block n < 256)
+pub strip_once_answered : (block : List ℕ) (code : ℕ) (before after : List Float) (r : Result ℕ Refusal) → ((n : ℕ) → byte_at block n < 256)
     → r ≡ strip_once_answer (chosen_of block code) (length before) → after ≡ strip_after (chosen_of block code) before → StripOnceAnswered block code before after r
 strip_once_answered block code before after r b e a =
     record {
       equation = e;
       plain = plain;
-      refusal = ap strip_refusal e ∙ refused_alike (chosen_of block code) (length before) ∙ plain.refusal;
+      refusal = ap answer_refusal e ∙ refused_alike (chosen_of block code) (length before) ∙ plain.refusal;
       given = λ c k l t. own c (e ∙ filled block code (length before) c k l t) t;
     }
   where
     plain : StripAnswered block code before after (strip_answer (chosen_of block code) (length before))
     plain = strip_answered block code before after (strip_answer (chosen_of block code) (length before)) b refl a
 
-    own : (c : Code) → r ≡ AStrip (steps_once (shape_of c (byte_at block)) (length before)) → T (length_fits (length before)) → WalkedOnce (shape_of c (byte_at block)) (slewed_code c (byte_at block)) 6 (length before) r
+    own : (c : Code) → r ≡ Ok (steps_once (shape_of c (byte_at block)) (length before)) → T (length_fits (length before)) → WalkedOnce (shape_of c (byte_at block)) (slewed_code c (byte_at block)) 6 (length before) r
     own c f t =
         let s = shape_of c (byte_at block) in
         let w : slewed s ≡ slewed_code c (byte_at block) = ap slewed (sym (turned_six c (byte_at block))) ∙ code_slewed Six c (byte_at block) b in

@@ -1,12 +1,11 @@
 // The strips of a block, a code and a number of turns, by either engine.
+// The code and the turns are numbers, as C gives them: what is promised of a number that is neither needs them so.
 #![tactic(auto)]
 
-ghost use Rattle.std.specs.Prelude.{◌≡◌, length};
+ghost use Rattle.std.specs.Prelude.{◌≡◌, length, Ok};
 ghost use Rattle.block_strip.specs.Strips.{strip_answer, strip_after};
 ghost use Rattle.block_strip_turns.specs.Promises.{StripTurnsAnswered, StripOnceTurnsAnswered};
 
-use block::Chosen;
-use block_strip::StripAnswer;
 use block_turns::choose_turns;
 use generator::Generator;
 use refusals::Refusal;
@@ -14,34 +13,31 @@ use shape_strip::fill;
 use strip::fits;
 
 // The strip of a generator, with a walk for each sample. Its length is tested last, after the block, the code and the turns. What is refused leaves it as it was.
-fn plain_strip(g: Generator, out: &mut [f32]) -> StripAnswer
-    ensures { (result ≡ strip_answer (Chosen.Generator g) (length out.old)) × (out.new ≡ strip_after (Chosen.Generator g) out.old) }
+fn plain_strip(g: Generator, out: &mut [f32]) -> Result<u32, Refusal>
+    ensures { (result ≡ strip_answer (Ok g) (length out.old)) × (out.new ≡ strip_after (Ok g) out.old) }
 {
     if !fits(out.len()) {
-        return StripAnswer::Refused(Refusal::Strip);
+        return Err(Refusal::Strip);
     }
-    let shape = g.shape;
-    let steps = fill(shape, out);
-    StripAnswer::Filled(steps)
+    Ok(fill(g.shape, out))
 }
 
-pub fn strip_turns(block: &[u8], code: u32, turns: u32, out: &mut [f32]) -> StripAnswer
+pub fn strip_turns(block: &[u8], code: u32, turns: u32, out: &mut [f32]) -> Result<u32, Refusal>
     ensures { StripTurnsAnswered block.now code turns out.old out.new result }
 {
-    let chosen = choose_turns(block, code, turns);
-    match chosen {
-        Chosen::Generator(g) => plain_strip(g, out),
-        Chosen::Refused(r) => StripAnswer::Refused(r),
-    }
+    let g = choose_turns(block, code, turns)?;
+    plain_strip(g, out)
 }
 
 // The same strip with one walk along it; its steps are its own.
-pub fn strip_once_turns(block: &[u8], code: u32, turns: u32, out: &mut [f32]) -> StripAnswer
+pub fn strip_once_turns(
+    block: &[u8],
+    code: u32,
+    turns: u32,
+    out: &mut [f32],
+) -> Result<u32, Refusal>
     ensures { StripOnceTurnsAnswered block.now code turns out.old out.new result }
 {
-    let found = choose_turns(block, code, turns);
-    match found {
-        Chosen::Generator(g) => block_strip_once::generator_strip(g, out),
-        Chosen::Refused(why) => StripAnswer::Refused(why),
-    }
+    let walked = choose_turns(block, code, turns)?;
+    block_strip_once::generator_strip(walked, out)
 }

@@ -5,24 +5,20 @@ use mathlib.Core.List.{List}
 use Prim.Native.Nat.{ℕ}
 use lib.Dec.{eqb}
 use lib.ListN.{length}
+use Rattle.std.specs.Prelude.{None, Some, Result, Ok, Err}
+use Rattle.refusals.specs.declared.Refusal.{Refusal}
+use Rattle.generator.specs.declared.Generator.{Generator}
 use Rattle.settings.specs.declared.SampledTurns.{SampledTurns}
 use Rattle.settings.specs.declared.SampledTurns.TheVariants.{Six, Eight}
 use Rattle.generator.specs.declared.Shape.{Shape}
 use Rattle.generator.specs.Generator.{generator_of}
-use Rattle.turns.specs.declared.TurnsRead.{TurnsRead}
-use Rattle.turns.specs.declared.TurnsRead.TheVariants.{Known as KnownTurns, Other}
 use Rattle.turns.specs.Turns.{turns_read, turned_of}
 use Rattle.refusals.specs.Refusals.{check_block, check_code, check_turns}
 use Rattle.codes.specs.declared.Code.{Code}
-use Rattle.codes.specs.declared.CodeRead.TheVariants.{Known}
 use Rattle.codes.specs.Codes.{code_of}
 use Rattle.code_bytes.specs.Bytes.{byte_at, block_length}
 use Rattle.code_shapes.specs.Shapes.{shape_of}
 use Rattle.code_heights.proofs.EveryCode.{turned_six}
-use Rattle.block.specs.declared.Settled.{Settled}
-use Rattle.block.specs.declared.Settled.TheVariants.{Known as KnownCode, Refused as NoCode}
-use Rattle.block.specs.declared.Chosen.{Chosen}
-use Rattle.block.specs.declared.Chosen.TheVariants.{Generator as AGenerator, Refused}
 use Rattle.block.specs.Refusals.{settled_of, chosen_by, chosen_of}
 use Rattle.block.proofs.KnownCode.{known_chosen}
 use Rattle.block.proofs.Refused.{refusal_or, chosen_checked}
@@ -33,18 +29,18 @@ pub turns_checked : (next : ℕ) (block : List ℕ) (code turns : ℕ) → refus
 unfolding chosen_turns chosen_at refusal_or turns_read check_turns
 turns_checked next block code turns = same (chosen_of block code) ∙ chosen_checked (check_turns turns next) block code
   where
-    same : (a : Chosen) → refusal_or next (chosen_at a (turns_read turns)) ≡ refusal_or (check_turns turns next) a
-    same (AGenerator g) = go (eqb turns 6) (eqb turns 8)
+    same : (a : Result Generator Refusal) → refusal_or next (chosen_at a (turns_read turns)) ≡ refusal_or (check_turns turns next) a
+    same (Ok g) = go (eqb turns 6) (eqb turns 8)
       where
-        go : (six eight : Bool) → refusal_or next (chosen_at (AGenerator g) (cond six (KnownTurns Six) (cond eight (KnownTurns Eight) Other))) ≡ cond (six || eight) next 5
+        go : (six eight : Bool) → refusal_or next (chosen_at (Ok g) (cond six (Some Six) (cond eight (Some Eight) None))) ≡ cond (six || eight) next 5
         go true eight = refl
         go false true = refl
         go false false = refl
-    same (Refused r) = refl
+    same (Err r) = refl
 
 -- ---- what a known code and a number of turns choose
-pub known_turned : (block : List ℕ) (code turns : ℕ) (c : Code) (n : SampledTurns) → code_of code ≡ Known c → turns_read turns ≡ KnownTurns n → length block ≡ block_length
-    → chosen_turns block code turns ≡ AGenerator (generator_of (turned_of n (shape_of c (byte_at block))))
+pub known_turned : (block : List ℕ) (code turns : ℕ) (c : Code) (n : SampledTurns) → code_of code ≡ Some c → turns_read turns ≡ Some n → length block ≡ block_length
+    → chosen_turns block code turns ≡ Ok (generator_of (turned_of n (shape_of c (byte_at block))))
 unfolding chosen_turns chosen_at generator_of
 known_turned block code turns c n k e l = simp (known_chosen block code c k l, e)
 
@@ -53,6 +49,6 @@ pub six_turns : (block : List ℕ) (code : ℕ) → chosen_turns block code 6 �
 unfolding chosen_turns turns_read chosen_of chosen_at chosen_by generator_of
 six_turns block code = go (settled_of block code)
   where
-    go : (s : Settled) → chosen_at (chosen_by s (byte_at block)) (KnownTurns Six) ≡ chosen_by s (byte_at block)
-    go (KnownCode c) = ap (λ (s : Shape). AGenerator (generator_of s)) (turned_six c (byte_at block))
-    go (NoCode r) = refl
+    go : (s : Result Code Refusal) → chosen_at (chosen_by s (byte_at block)) (Some Six) ≡ chosen_by s (byte_at block)
+    go (Ok c) = ap (λ (s : Shape). Ok (generator_of s)) (turned_six c (byte_at block))
+    go (Err r) = refl

@@ -3,6 +3,7 @@
 use mathlib.Core.Bool.{Bool, true, false, cond, ◌&&◌}
 use mathlib.Core.List.{List, [], ◌∷◌}
 use Prim.Native.Nat.{ℕ}
+use Rattle.std.specs.Prelude.{Option, None, Some}
 use lib.Dec.{T, eqb, ltb}
 use lib.Ieee.{Float, binary32, of_bits, to_bits, of_int, add, sub, mul, div, lt}
 use Rattle.exact.specs.Value.{value}
@@ -26,8 +27,6 @@ use Rattle.codes.specs.declared.Code.TheVariants.{Envelope, Lfo, LfoUnipolar, Fa
 use Rattle.codes.specs.declared.EnvelopeId.TheVariants.{Vca, Vcf, Mod}
 use Rattle.codes.specs.declared.LfoId.TheVariants.{One as LfoOne, Two as LfoTwo}
 use Rattle.codes.specs.declared.OscillatorId.TheVariants.{One, Two}
-use Rattle.codes.specs.declared.CodeRead.{CodeRead}
-use Rattle.codes.specs.declared.CodeRead.TheVariants.{Known, Above}
 use Rattle.codes.specs.Codes.{codes, code_in, code_of}
 use Rattle.code_bytes.specs.Bytes.{bytes_of, block_length}
 use Rattle.code_settings.specs.Settings.{envelope_at, lfo_at, oscillator_at}
@@ -63,9 +62,9 @@ words (AFilter f) = word f.slope ∷ word f.resonance ∷ word f.span ∷ pass_n
 words (AnOscillator o) = flag o.saw ∷ flag o.pulse ∷ word o.width ∷ word o.sweep ∷ word o.level ∷ []
 words (ANoise n) = word n.level ∷ []
 
-chosen_words : CodeRead → (ℕ → ℕ) → List ℕ
-chosen_words (Known c) b = words (shape_of c b)
-chosen_words Above b = []
+chosen_words : Option Code → (ℕ → ℕ) → List ℕ
+chosen_words (Some c) b = words (shape_of c b)
+chosen_words None b = []
 
 same : List ℕ → List ℕ → Bool
 same [] [] = true

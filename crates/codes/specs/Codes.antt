@@ -1,5 +1,5 @@
 -- THE CODES: docs/SPECIFICATION.md, "The block and its codes". Definitions only.
-use Rattle.std.specs.Prelude.{List, [], ◌∷◌, ℕ, zero, suc, ◌+◌}
+use Rattle.std.specs.Prelude.{List, [], ◌∷◌, ℕ, zero, suc, ◌+◌, Option, None, Some}
 use Rattle.codes.specs.declared.EnvelopeId.{EnvelopeId}
 use Rattle.codes.specs.declared.EnvelopeId.TheVariants.{Vca, Vcf, Mod}
 use Rattle.codes.specs.declared.LfoId.{LfoId}
@@ -8,8 +8,6 @@ use Rattle.codes.specs.declared.OscillatorId.{OscillatorId}
 use Rattle.codes.specs.declared.OscillatorId.TheVariants.{One as First, Two as Second}
 use Rattle.codes.specs.declared.Code.{Code}
 use Rattle.codes.specs.declared.Code.TheVariants.{Envelope, Lfo, LfoUnipolar, Fade, LowPass, HighPass, Oscillator, Noise}
-use Rattle.codes.specs.declared.CodeRead.{CodeRead}
-use Rattle.codes.specs.declared.CodeRead.TheVariants.{Known, Above}
 
 -- The codes in the order of their numbers, from 0 to 13.
 unfoldable pub codes : List Code
@@ -17,13 +15,13 @@ codes =
     Envelope Vca ∷ Envelope Vcf ∷ Envelope Mod ∷ Lfo One ∷ Lfo Two ∷ LfoUnipolar One ∷ LfoUnipolar Two ∷ Fade One ∷ Fade Two ∷ LowPass ∷ HighPass ∷
     Oscillator First ∷ Oscillator Second ∷ Noise ∷ []
 
--- The code of a number; numbers from the list's length on are above.
-unfoldable pub code_in : List Code → ℕ → CodeRead
-code_in [] n = Above
-code_in (c ∷ cs) zero = Known c
+-- The code of a number; numbers from the list's length on have none.
+unfoldable pub code_in : List Code → ℕ → Option Code
+code_in [] n = None
+code_in (c ∷ cs) zero = Some c
 code_in (c ∷ cs) (suc n) = code_in cs n
 
-abbrev pub code_of : ℕ → CodeRead
+abbrev pub code_of : ℕ → Option Code
 code_of n = code_in codes n
 
 -- The number of a code: that of its first, and how many of its kind stand before it.

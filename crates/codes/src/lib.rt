@@ -35,46 +35,40 @@ pub enum Code {
     Noise,
 }
 
-#[derive(Clone, Copy)]
-pub enum CodeRead {
-    Known(Code),
-    Above,
-}
-
 // How many codes there are, from 0 up.
 pub const CODES: u8 = 14;
 
 // The first number that is none.
 const ABOVE: u32 = CODES as u32;
 
-pub fn code_from(byte: u8) -> CodeRead
+pub fn code_from(byte: u8) -> Option<Code>
     ensures { result ≡ code_of byte }
 {
     match byte {
-        0 => CodeRead::Known(Code::Envelope(EnvelopeId::Vca)),
-        1 => CodeRead::Known(Code::Envelope(EnvelopeId::Vcf)),
-        2 => CodeRead::Known(Code::Envelope(EnvelopeId::Mod)),
-        3 => CodeRead::Known(Code::Lfo(LfoId::One)),
-        4 => CodeRead::Known(Code::Lfo(LfoId::Two)),
-        5 => CodeRead::Known(Code::LfoUnipolar(LfoId::One)),
-        6 => CodeRead::Known(Code::LfoUnipolar(LfoId::Two)),
-        7 => CodeRead::Known(Code::Fade(LfoId::One)),
-        8 => CodeRead::Known(Code::Fade(LfoId::Two)),
-        9 => CodeRead::Known(Code::LowPass),
-        10 => CodeRead::Known(Code::HighPass),
-        11 => CodeRead::Known(Code::Oscillator(OscillatorId::One)),
-        12 => CodeRead::Known(Code::Oscillator(OscillatorId::Two)),
-        13 => CodeRead::Known(Code::Noise),
-        14..=255 => CodeRead::Above,
+        0 => Some(Code::Envelope(EnvelopeId::Vca)),
+        1 => Some(Code::Envelope(EnvelopeId::Vcf)),
+        2 => Some(Code::Envelope(EnvelopeId::Mod)),
+        3 => Some(Code::Lfo(LfoId::One)),
+        4 => Some(Code::Lfo(LfoId::Two)),
+        5 => Some(Code::LfoUnipolar(LfoId::One)),
+        6 => Some(Code::LfoUnipolar(LfoId::Two)),
+        7 => Some(Code::Fade(LfoId::One)),
+        8 => Some(Code::Fade(LfoId::Two)),
+        9 => Some(Code::LowPass),
+        10 => Some(Code::HighPass),
+        11 => Some(Code::Oscillator(OscillatorId::One)),
+        12 => Some(Code::Oscillator(OscillatorId::Two)),
+        13 => Some(Code::Noise),
+        14..=255 => None,
     }
 }
 
 // The code of a wider number.
-pub fn code_read(number: u32) -> CodeRead
+pub fn code_read(number: u32) -> Option<Code>
     ensures { result ≡ code_of number }
 {
     if ABOVE <= number {
-        return CodeRead::Above;
+        return None;
     }
     code_from(number as u8)
 }

@@ -4,13 +4,13 @@ use mathlib.Core.Bool.{true}
 use Prim.Native.Nat.{ℕ, ◌<◌}
 use native.Mathlib.Nat.{suc-ne-zero}
 use lib.Ieee.{Float}
+use Rattle.std.specs.Prelude.{Option, None, Some, Result, Ok, Err}
 use Rattle.refusals.specs.declared.Refusal.{Refusal}
 use Rattle.refusals.specs.declared.Refusal.TheVariants.{Block, Code, Strip, Level, Turns}
 use Rattle.refusals.specs.Refusals.{accepted, refusal_number, check_level}
 use Rattle.level.specs.Level.{is_level}
-use Rattle.curve_finder.specs.declared.CurveAnswer.{CurveAnswer}
-use Rattle.curve_finder.specs.declared.CurveAnswer.TheVariants.{Found, NoneFound, Refused}
-use Rattle.curve_finder.specs.Promises.{EndsNear, CurvePromised, CurveAnswered}
+use Rattle.curve_finder.specs.declared.Search.{Search}
+use Rattle.curve_finder.specs.Promises.{EndsNear, SearchPromised, CurvePromised, CurveAnswered}
 
 -- a refusal has a number above 0
 numbered : (why : Refusal) → refusal_number why ≡ accepted → ⊥
@@ -24,11 +24,18 @@ checked : (w : Float) → is_level w ≡ true → check_level (is_level w) accep
 unfolding check_level
 checked w l = rw l
 
-module _ (s : ℕ) (w : Float) (l : is_level w ≡ true) where
-  pub none_said : (r : CurveAnswer) → CurveAnswered s w r → ((c : ℕ) → c < 256 → EndsNear s w c → ⊥) → r ≡ NoneFound 256
-  none_said (Found c n) a h = absurd (h c a.promised.byte a.promised.ends)
-  none_said (NoneFound n) a h = ap NoneFound a.promised.tried
-  none_said (Refused why) a h = absurd (numbered why (a.refusal ∙ checked w l))
+-- no byte, and all tried
+abbrev none_found : Result Search Refusal
+none_found = Ok (record { byte = None; tried = 256 })
 
-  pub none_left : (r : CurveAnswer) → CurveAnswered s w r → r ≡ NoneFound 256 → (c : ℕ) → c < 256 → EndsNear s w c → ⊥
-  none_left r a e = (subst (λ (x : CurveAnswer). CurvePromised s w x) e a.promised).none
+module _ (s : ℕ) (w : Float) (l : is_level w ≡ true) where
+  pub none_said : (r : Result Search Refusal) → CurveAnswered s w r → ((c : ℕ) → c < 256 → EndsNear s w c → ⊥) → r ≡ none_found
+  none_said (Ok found) a h = go found.byte found.tried a.promised
+    where
+      go : (b : Option ℕ) (n : ℕ) → SearchPromised s w b n → Ok (record { byte = b; tried = n }) ≡ none_found
+      go (Some c) n p = absurd (h c p.byte p.ends)
+      go None n p = ap (λ (k : ℕ). Ok (record { byte = None; tried = k })) p.tried
+  none_said (Err why) a h = absurd (numbered why (a.refusal ∙ checked w l))
+
+  pub none_left : (r : Result Search Refusal) → CurveAnswered s w r → r ≡ none_found → (c : ℕ) → c < 256 → EndsNear s w c → ⊥
+  none_left r a e = (subst (λ (x : Result Search Refusal). CurvePromised s w x) e a.promised).none

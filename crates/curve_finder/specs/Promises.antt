@@ -1,12 +1,12 @@
 -- A CURVE BYTE FOR A WANTED END: docs/SPECIFICATION.md, "A curve byte for a wanted end". Definitions only.
-use Rattle.std.specs.Prelude.{◌≡◌, Bool, true, false, ℕ, ◌+◌, ◌<◌, Float}
+use Rattle.std.specs.Prelude.{◌≡◌, Bool, true, false, ℕ, ◌+◌, ◌<◌, Float, Option, None, Some, Result, Ok, Err}
 use Rattle.exact.specs.Fraction.{ratio}
 use Rattle.exact.specs.Value.{value, Within}
-use Rattle.refusals.specs.Refusals.{accepted, refusal_number, check_level}
+use Rattle.refusals.specs.declared.Refusal.{Refusal}
+use Rattle.refusals.specs.Refusals.{accepted, answer_refusal, check_level}
 use Rattle.envelope_settings.specs.Formula.{sustain_end_of}
 use Rattle.level.specs.Level.{is_level}
-use Rattle.curve_finder.specs.declared.CurveAnswer.{CurveAnswer}
-use Rattle.curve_finder.specs.declared.CurveAnswer.TheVariants.{Found, NoneFound, Refused}
+use Rattle.curve_finder.specs.declared.Search.{Search}
 
 -- Two floats are numbers, and what they hold differs by at most 1/512: nothing is rounded.
 abbrev pub Near : Float → Float → Type 0
@@ -28,20 +28,17 @@ pub record NoCurve (s : ℕ) (w : Float) (n : ℕ) : Type 0 where
   pub tried : n ≡ 256
 
 -- What is promised beside the number of a refusal, by the answer.
-abbrev pub CurvePromised : ℕ → Float → CurveAnswer → Type 0
-CurvePromised s w (Found c n) = FoundCurve s w c n
-CurvePromised s w (NoneFound n) = NoCurve s w n
-CurvePromised s w (Refused why) = Unit {0}
+abbrev pub SearchPromised : ℕ → Float → Option ℕ → ℕ → Type 0
+SearchPromised s w (Some c) n = FoundCurve s w c n
+SearchPromised s w None n = NoCurve s w n
 
--- The number of an answer's refusal.
-abbrev pub curve_refusal : CurveAnswer → ℕ
-curve_refusal (Found c n) = accepted
-curve_refusal (NoneFound n) = accepted
-curve_refusal (Refused why) = refusal_number why
+abbrev pub CurvePromised : ℕ → Float → Result Search Refusal → Type 0
+CurvePromised s w (Ok found) = SearchPromised s w found.byte found.tried
+CurvePromised s w (Err why) = Unit {0}
 
 -- The wanted level alone is checked: what is no level is refused, and nothing else is.
-pub record CurveAnswered (s : ℕ) (w : Float) (r : CurveAnswer) : Type 0 where
-  pub refusal : curve_refusal r ≡ check_level (is_level w) accepted
+pub record CurveAnswered (s : ℕ) (w : Float) (r : Result Search Refusal) : Type 0 where
+  pub refusal : answer_refusal r ≡ check_level (is_level w) accepted
   pub promised : CurvePromised s w r
 
 -- A test tells whether a claim holds: what the search goes by.

@@ -9,16 +9,12 @@ use envelope_settings::sustain_end;
 use level::is_level;
 use refusals::Refusal;
 
-// A byte or none, either with how many were tried; or why the level is refused.
+// A byte that was found, or none, and how many were tried.
 #[derive(Clone, Copy)]
-pub enum CurveAnswer {
-    Found { byte: u8, tried: u32 },
-    NoneFound { tried: u32 },
-    Refused(Refusal),
+pub struct Search {
+    pub byte: Option<u8>,
+    pub tried: u32,
 }
-
-// How many curve bytes there are.
-const CURVES: u32 = 256;
 
 // How far an end may lie from the wanted level.
 const REACH: f32 = 1.0 / 512.0;
@@ -46,19 +42,22 @@ fn ends_near(sustain: u8, curve: u8, wanted: f32) -> bool
 }
 
 // A curve byte for a sustain byte and a wanted level.
-pub fn curve_for_end(sustain: u8, wanted: f32) -> CurveAnswer
+pub fn curve_for_end(sustain: u8, wanted: f32) -> Result<Search, Refusal>
     ensures { CurveAnswered sustain wanted result }
 {
     if !is_level(wanted) {
-        return CurveAnswer::Refused(Refusal::Level);
+        return Err(Refusal::Level);
     }
-    let mut tried: u32 = 0;
-    while tried < CURVES {
-        let byte = tried as u8;
-        tried += 1;
+    for byte in 0..=255u8 {
         if ends_near(sustain, byte, wanted) {
-            return CurveAnswer::Found { byte, tried };
+            return Ok(Search {
+                byte: Some(byte),
+                tried: byte as u32 + 1,
+            });
         }
     }
-    CurveAnswer::NoneFound { tried }
+    Ok(Search {
+        byte: None,
+        tried: 256,
+    })
 }

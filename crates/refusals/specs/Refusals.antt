@@ -1,9 +1,7 @@
 -- THE REFUSALS: docs/SPECIFICATION.md, "What is offered to callers". Definitions only.
-use Rattle.std.specs.Prelude.{Bool, cond, ◌&&◌, ◌||◌, ℕ, eqb, leb}
+use Rattle.std.specs.Prelude.{Bool, cond, ◌&&◌, ◌||◌, ℕ, eqb, leb, Result, Ok, Err}
 use Rattle.refusals.specs.declared.Refusal.{Refusal}
 use Rattle.refusals.specs.declared.Refusal.TheVariants.{Block, Code, Strip, Level, Turns}
-use Rattle.refusals.specs.declared.Answer.{Answer}
-use Rattle.refusals.specs.declared.Answer.TheVariants.{Accepted, Refused}
 
 -- ---- the numbers; 0 is that of an input that is accepted
 abbrev pub accepted : ℕ
@@ -16,9 +14,10 @@ refusal_number Strip = 3
 refusal_number Level = 4
 refusal_number Turns = 5
 
-abbrev pub answer_refusal : Answer → ℕ
-answer_refusal Accepted = accepted
-answer_refusal (Refused why) = refusal_number why
+-- of an answer of any kind
+abbrev pub answer_refusal : {A : Type 0} → Result A Refusal → ℕ
+answer_refusal (Ok a) = accepted
+answer_refusal (Err why) = refusal_number why
 
 -- ---- the checks: each gives its number where it fails, else what the checks after it give
 -- A block has 242 bytes.

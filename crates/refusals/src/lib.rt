@@ -5,20 +5,13 @@ ghost use Rattle.std.specs.Prelude.{◌≡◌};
 ghost use Rattle.refusals.specs.Refusals.{refusal_number, answer_refusal};
 
 // The block's length, the code, the strip's length, a level that is none, a number of turns other than 6 or 8.
-#[derive(Clone, Copy)]
+#[derive(Clone, Copy, PartialEq, Eq)]
 pub enum Refusal {
     Block,
     Code,
     Strip,
     Level,
     Turns,
-}
-
-// An answer with nothing beside it, or with arrays, which an enum does not hold.
-#[derive(Clone, Copy)]
-pub enum Answer {
-    Accepted,
-    Refused(Refusal),
 }
 
 pub fn refusal_number(r: Refusal) -> u32
@@ -34,11 +27,11 @@ pub fn refusal_number(r: Refusal) -> u32
 }
 
 // The number of an answer's refusal, 0 for none.
-pub fn answer_refusal(answer: Answer) -> u32
+pub fn answer_refusal<T: Drop>(answer: Result<T, Refusal>) -> u32
     ensures { result ≡ answer_refusal answer }
 {
     match answer {
-        Answer::Accepted => 0,
-        Answer::Refused(why) => refusal_number(why),
+        Ok(_) => 0,
+        Err(why) => refusal_number(why),
     }
 }

@@ -1,5 +1,5 @@
 -- A NUMBER OF TURNS FOR THE SAMPLED SHAPES: docs/SPECIFICATION.md, "Turns". Definitions only.
-use Rattle.std.specs.Prelude.{Bool, true, false, cond, List, [], ℕ, eqb}
+use Rattle.std.specs.Prelude.{Bool, true, false, cond, List, [], ℕ, eqb, Option, None, Some}
 use Rattle.settings.specs.declared.LfoShape.{LfoShape}
 use Rattle.settings.specs.declared.LfoShape.TheVariants.{Sine, Triangle, Square, RampUp, RampDown, SampleAndHold, SampleAndGlide}
 use Rattle.settings.specs.declared.SampledTurns.{SampledTurns}
@@ -7,17 +7,15 @@ use Rattle.settings.specs.declared.SampledTurns.TheVariants.{Six, Eight}
 use Rattle.settings.specs.Settings.{turned_lfo}
 use Rattle.generator.specs.declared.Shape.{Shape}
 use Rattle.generator.specs.declared.Shape.TheVariants.{Envelope as AnEnvelope, Fade as AFade, Lfo as AnLfo, Filter as AFilter, Oscillator as AnOscillator, Noise as ANoise}
-use Rattle.turns.specs.declared.TurnsRead.{TurnsRead}
-use Rattle.turns.specs.declared.TurnsRead.TheVariants.{Known, Other}
 
 -- 6 and 8 are numbers of turns, and no other number is.
-unfoldable pub turns_read : ℕ → TurnsRead
-turns_read n = cond (eqb n 6) (Known Six) (cond (eqb n 8) (Known Eight) Other)
+unfoldable pub turns_read : ℕ → Option SampledTurns
+turns_read n = cond (eqb n 6) (Some Six) (cond (eqb n 8) (Some Eight) None)
 
 -- A text that is written at a number of turns: at another than 6 or 8 there is none.
-unfoldable pub turns_text : (SampledTurns → List ℕ) → TurnsRead → List ℕ
-turns_text text (Known n) = text n
-turns_text text Other = []
+unfoldable pub turns_text : (SampledTurns → List ℕ) → Option SampledTurns → List ℕ
+turns_text text (Some n) = text n
+turns_text text None = []
 
 -- A shape at n turns of the sampled ones: an LFO has the turns of its own shape, and all else is as it was.
 unfoldable pub turned_of : SampledTurns → Shape → Shape

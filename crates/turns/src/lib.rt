@@ -7,25 +7,19 @@ ghost use Rattle.turns.specs.Turns.{turns_read, turned_of};
 use generator::Shape;
 use settings::{SampledTurns, turned_lfo};
 
-#[derive(Clone, Copy)]
-pub enum TurnsRead {
-    Known(SampledTurns),
-    Other,
-}
-
-pub fn turns_read(number: u32) -> TurnsRead
+#[tactic(auto, unfolding(crate::specs::Turns::turns_read))]
+pub fn turns_read(number: u32) -> Option<SampledTurns>
     ensures { result ≡ turns_read number }
 {
-    if number == 6 {
-        return TurnsRead::Known(SampledTurns::Six);
+    match number {
+        6 => Some(SampledTurns::Six),
+        8 => Some(SampledTurns::Eight),
+        _ => None,
     }
-    if number == 8 {
-        return TurnsRead::Known(SampledTurns::Eight);
-    }
-    TurnsRead::Other
 }
 
 // A shape at so many turns of the sampled ones: an LFO's, and all else as it is.
+#[tactic(auto, unfolding(crate::specs::Turns::turned_of))]
 pub fn turned(sampled: SampledTurns, shape: Shape) -> Shape
     ensures { result ≡ turned_of sampled shape }
 {

@@ -1,31 +1,14 @@
--- `anchored` is `anchored_answer`: a return for the generator and one for the refusal. The rest follows from the equation. Assumes nothing.
-use borrow.Author.Rules.{rules}
+-- `anchored` is `anchored_answer` of what is chosen: what is made of the generator, or the refusal. The rest follows from the equation. Assumes nothing.
 use mathlib.Core.Path.{sym}
-use Rattle.block_generator.specs.Answers.{anchored_answer}
-use Rattle.block_choice.proofs.Answered.{answered}
-use Rattle.block_generator.proofs.Refused.{anchored_refused}
+use Rattle.refusals.proofs.Passed.{passed_on}
+use Rattle.block_choice.proofs.Answered.{made_refused, answered}
+use Rattle.block_choice.specs.Promises.{of_chosen}
 use Rattle.block_generator.proofs.anchored.Goals as goal
 
-pub choose-chosen-requires : goal.choose-chosen-requires
-unfolding anchored_answer
-choose-chosen-requires c = search rules
+pub returns-in_err-choose : goal.returns-in_err-choose
+unfolding of_chosen
+returns-in_err-choose c = answered (made_refused _) (simp (passed_on c.from_residual.ensures.1, sym c.choose.ensures, c.in_err-choose.was))
 
-pub enum_known-chosen : goal.enum_known-chosen
-unfolding anchored_answer
-enum_known-chosen c = search rules
-
-pub anchored-requires : goal.anchored-requires
-unfolding anchored_answer
-anchored-requires c = search rules
-
-pub enum_known-chosen-in-Refused-1 : goal.enum_known-chosen-in-Refused-1
-unfolding anchored_answer
-enum_known-chosen-in-Refused-1 c = search rules
-
-pub returns-in-Generator : goal.returns-in-Generator
-unfolding anchored_answer
-returns-in-Generator c = answered anchored_refused (simp (sym c.choose-chosen.ensures, c.in-Generator.is, c.anchored.ensures))
-
-pub returns-in-Refused : goal.returns-in-Refused
-unfolding anchored_answer
-returns-in-Refused c = answered anchored_refused (simp (sym c.choose-chosen.ensures, c.in-Refused.is))
+pub returns : goal.returns
+unfolding of_chosen
+returns c = answered (made_refused _) (simp (sym c.choose.ensures, c.in_ok-choose.was, c.anchored.ensures))

@@ -10,12 +10,12 @@ pub returns-then-not-fits : goal.returns-then-not-fits
 unfolding strip_once_answer strip_after strip_of
 returns-then-not-fits c = let unfit = sym c.fits.ensures ∙ c.if-not-fits.true in (simp unfit, simp unfit)
 
-pub fill_once-steps-requires : goal.fill_once-steps-requires
-fill_once-steps-requires c = record { shape_forward = c.requires; fits = between _ c.fits.ensures c.if-not-fits.false }
+pub fill_once-requires : goal.fill_once-requires
+fill_once-requires c = record { shape_forward = c.requires; fits = between _ c.fits.ensures c.if-not-fits.false }
 
 pub returns : goal.returns
 unfolding strip_once_answer strip_after strip_of
 returns c =
     let fits = sym c.fits.ensures ∙ c.if-not-fits.false in
-    let filled = c.fill_once-steps.ensures in
+    let filled = c.fill_once.ensures in
     (simp (fits, filled.0), simp (fits, filled.1))

@@ -9,12 +9,12 @@ pub returns-then-not-fits : goal.returns-then-not-fits
 unfolding strip_answer strip_after strip_of
 returns-then-not-fits c = let unfit = sym c.fits.ensures ∙ c.if-not-fits.true in (simp unfit, simp unfit)
 
-pub fill-steps-requires : goal.fill-steps-requires
-fill-steps-requires c = between _ c.fits.ensures c.if-not-fits.false
+pub fill-requires : goal.fill-requires
+fill-requires c = between _ c.fits.ensures c.if-not-fits.false
 
 pub returns : goal.returns
 unfolding strip_answer strip_after steps_of strip_of
 returns c =
     let fits = sym c.fits.ensures ∙ c.if-not-fits.false in
-    let filled = c.fill-steps.ensures in
+    let filled = c.fill.ensures in
     (simp (fits, filled.0), simp (fits, filled.1))

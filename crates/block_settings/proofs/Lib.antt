@@ -1,2 +1,0 @@
--- What is refused.
-pub mod Refused

@@ -1,0 +1,2 @@
+-- What a `?` hands on.
+pub mod Passed
