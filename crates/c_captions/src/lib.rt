@@ -1,4 +1,5 @@
 // Captions for C callers: what crate block_captions answers, as a number.
+// The code is a number, as C gives it: what is promised of a number that is no code needs it so.
 #![tactic(auto)]
 
 ghost use Rattle.std.specs.Prelude.{◌≡◌};

@@ -7,26 +7,21 @@ ghost use Rattle.c_results.specs.Promises.{Returned};
 ghost use Rattle.c_curve.specs.Results.{curve_result};
 
 use c_results::CurveResult;
-use curve_finder::CurveAnswer;
-use refusals::refusal_number;
+use curve_finder::Search;
+use refusals::{Refusal, refusal_number};
 
-fn curve_result(answer: CurveAnswer) -> CurveResult
+#[tactic(auto, unfolding(crate::specs::Results::curve_result, crate::specs::Results::search_result))]
+fn curve_result(answer: Result<Search, Refusal>) -> CurveResult
     ensures { result ≡ curve_result answer }
 {
     match answer {
-        CurveAnswer::Found { byte, tried } => CurveResult {
+        Ok(search) => CurveResult {
             refusal: 0,
-            found: 1,
-            byte: byte as u32,
-            tried,
+            found: search.byte.is_some() as u32,
+            byte: search.byte.unwrap_or(0) as u32,
+            tried: search.tried,
         },
-        CurveAnswer::NoneFound { tried } => CurveResult {
-            refusal: 0,
-            found: 0,
-            byte: 0,
-            tried,
-        },
-        CurveAnswer::Refused(why) => CurveResult {
+        Err(why) => CurveResult {
             refusal: refusal_number(why),
             found: 0,
             byte: 0,

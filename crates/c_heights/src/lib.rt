@@ -1,4 +1,5 @@
 // Heights for C callers: what crates block and block_turns answer, as numbers.
+// The code and the turns are numbers, as C gives them: what is promised of a number that is neither needs them so.
 #![tactic(auto)]
 
 ghost use Rattle.std.specs.Prelude.{◌≡◌};
@@ -7,20 +8,21 @@ ghost use Rattle.block_turns.specs.Promises.{HeightTurnsAnswered};
 ghost use Rattle.c_results.specs.Promises.{Returned};
 ghost use Rattle.c_heights.specs.Results.{height_result};
 
-use block::HeightAnswer;
 use c_results::HeightResult;
-use refusals::refusal_number;
+use curve::Height;
+use refusals::{Refusal, refusal_number};
 
-pub fn height_result(answer: HeightAnswer) -> HeightResult
+#[tactic(auto, unfolding(crate::specs::Results::height_result))]
+pub fn height_result(answer: Result<Height, Refusal>) -> HeightResult
     ensures { result ≡ height_result answer }
 {
     match answer {
-        HeightAnswer::Height(h) => HeightResult {
+        Ok(h) => HeightResult {
             refusal: 0,
             steps: h.steps,
             height: h.height,
         },
-        HeightAnswer::Refused(why) => HeightResult {
+        Err(why) => HeightResult {
             refusal: refusal_number(why),
             steps: 0,
             height: 0.0,

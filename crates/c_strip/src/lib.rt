@@ -1,4 +1,5 @@
 // Strips for C callers: what crates block_strip and block_strip_once answer, as numbers.
+// The code is a number, as C gives it: what is promised of a number that is no code needs it so.
 #![tactic(auto)]
 
 ghost use Rattle.std.specs.Prelude.{◌≡◌};
@@ -7,16 +8,16 @@ ghost use Rattle.block_strip_once.specs.Promises.{StripOnceAnswered};
 ghost use Rattle.c_results.specs.Promises.{Returned};
 ghost use Rattle.c_strip.specs.Results.{strip_result};
 
-use block_strip::StripAnswer;
 use c_results::StripResult;
-use refusals::refusal_number;
+use refusals::{Refusal, refusal_number};
 
-pub fn strip_result(answer: StripAnswer) -> StripResult
+#[tactic(auto, unfolding(crate::specs::Results::strip_result))]
+pub fn strip_result(answer: Result<u32, Refusal>) -> StripResult
     ensures { result ≡ strip_result answer }
 {
     match answer {
-        StripAnswer::Filled(steps) => StripResult { refusal: 0, steps },
-        StripAnswer::Refused(why) => StripResult {
+        Ok(steps) => StripResult { refusal: 0, steps },
+        Err(why) => StripResult {
             refusal: refusal_number(why),
             steps: 0,
         },

@@ -1,4 +1,5 @@
 // Strips at a number of turns for C callers: what crate block_strip_turns answers, as numbers.
+// The code and the turns are numbers, as C gives them: what is promised of a number that is neither needs them so.
 ghost use Rattle.std.specs.Prelude.{◌≡◌};
 ghost use Rattle.block_strip_turns.specs.Promises.{StripTurnsAnswered, StripOnceTurnsAnswered};
 ghost use Rattle.c_results.specs.Promises.{Returned};

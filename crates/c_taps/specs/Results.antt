@@ -1,12 +1,12 @@
 -- TAPS FROM TWO LENT ARRAYS: docs/SPECIFICATION.md, "The C interface". Definitions only.
-use Rattle.std.specs.Prelude.{List, [], ◌∷◌, ℕ, get_or, Float}
+use Rattle.std.specs.Prelude.{List, [], ◌∷◌, ℕ, get_or, Float, Result, Ok}
 use Rattle.std.specs.Float.{nan}
+use Rattle.marks.specs.declared.Marks.{Marks}
 use Rattle.marks.specs.Marks.{stored}
 use Rattle.taps.specs.declared.Taps.{Taps}
 use Rattle.taps.specs.Formula.{used_of}
 use Rattle.tap_marks.specs.Marks.{tap_marks}
-use Rattle.refusals.specs.declared.Answer.TheVariants.{Accepted}
-use Rattle.block_marks.specs.declared.MarksAnswer.{MarksAnswer}
+use Rattle.refusals.specs.declared.Refusal.{Refusal}
 
 -- Taps from two arrays of four.
 unfoldable pub taps_of : List Float → List Float → ℕ → Taps
@@ -18,5 +18,5 @@ taps_of at tall used =
     }
 
 -- The marks of taps, which are never refused.
-unfoldable pub taps_answer : Taps → MarksAnswer
-taps_answer taps = record { answer = Accepted; marks = stored (tap_marks taps (used_of taps)) }
+unfoldable pub taps_answer : Taps → Result Marks Refusal
+taps_answer taps = Ok (stored (tap_marks taps (used_of taps)))

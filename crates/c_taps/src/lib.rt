@@ -1,20 +1,17 @@
 // Taps for C callers, which lend them as two arrays.
 #![tactic(auto)]
 
-ghost use Rattle.std.specs.Prelude.{◌≡◌};
+ghost use Rattle.std.specs.Prelude.{◌≡◌, Ok};
 ghost use Rattle.taps.specs.Promises.{TapsAnswered};
 ghost use Rattle.c_results.specs.Promises.{Returned};
 ghost use Rattle.c_heights.specs.Results.{height_result};
 ghost use Rattle.mark_numbers.specs.Results.{MarksNumbers};
 ghost use Rattle.c_taps.specs.Results.{taps_of, taps_answer};
 
-use block::HeightAnswer;
-use block_marks::MarksAnswer;
 use c_heights::height_result;
 use c_results::{CountResult, HeightResult};
 use mark_numbers::copy_marks;
 use marks::MAX_MARKS;
-use refusals::Answer;
 use taps::{MAX_TAPS, Taps};
 
 fn taps_of(at: &[f32; MAX_TAPS], tall: &[f32; MAX_TAPS], used: u32) -> Taps
@@ -28,10 +25,10 @@ fn taps_of(at: &[f32; MAX_TAPS], tall: &[f32; MAX_TAPS], used: u32) -> Taps
 }
 
 pub fn taps_height(at: &[f32; MAX_TAPS], tall: &[f32; MAX_TAPS], used: u32, t: f32) -> HeightResult
-    ensures { Returned (λ h. result ≡ height_result (HeightAnswer.Height h)) (TapsAnswered (taps_of at.now tall.now used) t) }
+    ensures { Returned (λ h. result ≡ height_result (Ok h)) (TapsAnswered (taps_of at.now tall.now used) t) }
 {
     let h = taps::taps_height(taps_of(at, tall, used), t);
-    height_result(HeightAnswer::Height(h))
+    height_result(Ok(h))
 }
 
 pub fn taps_marks(
@@ -44,9 +41,5 @@ pub fn taps_marks(
     ensures { MarksNumbers (taps_answer (taps_of at.now tall.now used)) mark_at.old mark_at.new kind.old kind.new result }
 {
     let marks = tap_marks::taps_marks(taps_of(at, tall, used));
-    let found = MarksAnswer {
-        answer: Answer::Accepted,
-        marks,
-    };
-    copy_marks(found, mark_at, kind)
+    copy_marks(Ok(marks), mark_at, kind)
 }

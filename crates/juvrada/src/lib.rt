@@ -2,7 +2,7 @@
 // name that makes those numbers.
 #![tactic(auto)]
 
-ghost use Rattle.std.specs.Prelude.{◌≡◌};
+ghost use Rattle.std.specs.Prelude.{◌≡◌, Ok};
 ghost use Rattle.bends.specs.Formula.{Charted};
 ghost use Rattle.taps.specs.Promises.{TapsAnswered};
 ghost use Rattle.refusals.specs.Refusals.{answer_refusal};
@@ -13,9 +13,9 @@ ghost use Rattle.block_captions.specs.Promises.{CaptionsAnswered};
 ghost use Rattle.block_choice.specs.Promises.{Answered};
 ghost use Rattle.block_turns.specs.Promises.{TurnsAnswered, HeightTurnsAnswered};
 ghost use Rattle.block_strip_turns.specs.Promises.{StripTurnsAnswered, StripOnceTurnsAnswered};
-ghost use Rattle.block_settings.specs.Answers.{settings_answer, settings_refusal};
-ghost use Rattle.block_marks.specs.Answers.{marks_answer, marks_refusal};
-ghost use Rattle.block_generator.specs.Answers.{rest_answer, rest_refusal, scale_answer, scale_refusal, anchored_answer, anchored_refusal};
+ghost use Rattle.block_settings.specs.Answers.{settings_answer};
+ghost use Rattle.block_marks.specs.Answers.{marks_answer};
+ghost use Rattle.block_generator.specs.Answers.{rest_answer, scale_answer, anchored_answer};
 ghost use Rattle.block_gates.specs.Answers.{gates_answer, bars_answer};
 ghost use Rattle.block_gates.specs.Promises.{GatesAnswered};
 ghost use Rattle.curve_finder.specs.Promises.{CurveAnswered};
@@ -29,7 +29,6 @@ ghost use Rattle.gate_numbers.specs.Results.{GatesNumbers};
 ghost use Rattle.c_curve.specs.Results.{curve_result};
 ghost use Rattle.c_taps.specs.Results.{taps_of, taps_answer};
 
-use block::HeightAnswer;
 use c_results::{
     AnchoredResult, CountResult, CurveResult, HeightResult, RestResult, ScaleResult, StripResult,
 };
@@ -66,28 +65,28 @@ pub extern "C" fn juvrada_marks(
     at: &mut [f32; MAX_MARKS],
     kind: &mut [u8; MAX_MARKS],
 ) -> CountResult
-    ensures { Returned (λ a. MarksNumbers a at.old at.new kind.old kind.new result) (Answered marks_answer marks_refusal block.now code) }
+    ensures { Returned (λ a. MarksNumbers a at.old at.new kind.old kind.new result) (Answered marks_answer block.now code) }
 {
     c_marks::marks(block, code, at, kind)
 }
 
 #[unsafe(no_mangle)]
 pub extern "C" fn juvrada_rest(block: &[u8], code: u32) -> RestResult
-    ensures { Returned (λ a. result ≡ rest_result a) (Answered rest_answer rest_refusal block.now code) }
+    ensures { Returned (λ a. result ≡ rest_result a) (Answered rest_answer block.now code) }
 {
     c_generator::rest(block, code)
 }
 
 #[unsafe(no_mangle)]
 pub extern "C" fn juvrada_scale(block: &[u8], code: u32) -> ScaleResult
-    ensures { Returned (λ a. result ≡ scale_result a) (Answered scale_answer scale_refusal block.now code) }
+    ensures { Returned (λ a. result ≡ scale_result a) (Answered scale_answer block.now code) }
 {
     c_generator::scale(block, code)
 }
 
 #[unsafe(no_mangle)]
 pub extern "C" fn juvrada_anchored(block: &[u8], code: u32) -> AnchoredResult
-    ensures { Returned (λ a. result ≡ anchored_result a) (Answered anchored_answer anchored_refusal block.now code) }
+    ensures { Returned (λ a. result ≡ anchored_result a) (Answered anchored_answer block.now code) }
 {
     c_generator::anchored(block, code)
 }
@@ -98,7 +97,7 @@ pub extern "C" fn juvrada_settings(
     code: u32,
     out: &mut [f32; MAX_SETTINGS],
 ) -> CountResult
-    ensures { Returned (λ a. (result ≡ settings_result a) × (out.new ≡ settings_after a out.old)) (Answered settings_answer settings_refusal block.now code) }
+    ensures { Returned (λ a. (result ≡ settings_result a) × (out.new ≡ settings_after a out.old)) (Answered settings_answer block.now code) }
 {
     c_settings::settings(block, code, out)
 }
@@ -178,14 +177,14 @@ pub extern "C" fn juvrada_marks_turns(
     at: &mut [f32; MAX_MARKS],
     kind: &mut [u8; MAX_MARKS],
 ) -> CountResult
-    ensures { Returned (λ a. MarksNumbers a at.old at.new kind.old kind.new result) (TurnsAnswered marks_answer marks_refusal block.now code turns) }
+    ensures { Returned (λ a. MarksNumbers a at.old at.new kind.old kind.new result) (TurnsAnswered marks_answer block.now code turns) }
 {
     c_marks::marks_turns(block, code, turns, at, kind)
 }
 
 #[unsafe(no_mangle)]
 pub extern "C" fn juvrada_scale_turns(block: &[u8], code: u32, turns: u32) -> ScaleResult
-    ensures { Returned (λ a. result ≡ scale_result a) (TurnsAnswered scale_answer scale_refusal block.now code turns) }
+    ensures { Returned (λ a. result ≡ scale_result a) (TurnsAnswered scale_answer block.now code turns) }
 {
     c_generator::scale_turns(block, code, turns)
 }
@@ -204,7 +203,7 @@ pub extern "C" fn juvrada_taps_height(
     used: u32,
     t: f32,
 ) -> HeightResult
-    ensures { Returned (λ h. result ≡ height_result (HeightAnswer.Height h)) (TapsAnswered (taps_of at.now tall.now used) t) }
+    ensures { Returned (λ h. result ≡ height_result (Ok h)) (TapsAnswered (taps_of at.now tall.now used) t) }
 {
     c_taps::taps_height(at, tall, used, t)
 }

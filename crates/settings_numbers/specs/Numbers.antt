@@ -1,5 +1,5 @@
 -- SETTINGS AS PLAIN NUMBERS: docs/SPECIFICATION.md, "The C interface". A generator's fields in the order of their declaration, each an f32. Definitions only.
-use Rattle.std.specs.Prelude.{Bool, cond, List, [], ◌∷◌, ℕ, zero, suc, length, Float}
+use Rattle.std.specs.Prelude.{Bool, cond, List, [], ◌∷◌, length, Float}
 use Rattle.lists.specs.Padded.{padded}
 use Rattle.exact.specs.Binary32.{bits, zero₃₂, one₃₂}
 use Rattle.settings.specs.declared.LfoShape.{LfoShape}
