@@ -7,6 +7,7 @@ use native.Mathlib.Omega.{arith}
 use borrow.Author.Tests.{lt-ltb}
 use lib.Dec.{lit<}
 use lib.Pow.{pow_pos, shl_exact}
+use Rattle.text.specs.declared.Writer.{Writer}
 use Rattle.text.specs.Text.{Puts}
 use Rattle.text.proofs.Writing.{Left, left_less, puts_as}
 use Rattle.numerals.specs.Spelled.{glyph_of, digits_of}
@@ -27,15 +28,11 @@ bit_glyph : (d : ℕ) → d < 2 → glyph_of d ≡ 48 + d
 unfolding glyph_of
 bit_glyph d h = let l : d < 10 = omega arith in rw (lt-ltb d 10 l)
 
-bit_at : (n k : ℕ) → k < 32 → glyph_of (n / 2 ^ k % 2) ≡ 48 + n / shifted k % 2
-bit_at n k h =
+pub bit_put : {w w₁ : Writer} (n k : ℕ) → Puts w ((48 + n / 2 ^ k % 2) ∷ []) w₁ → Puts w (glyph_of (n / 2 ^ k % 2) ∷ []) w₁
+bit_put n k f =
     let two : 0 < 2 = omega arith in
-    bit_glyph (n / 2 ^ k % 2) (mod-lt (n / 2 ^ k) two) ∙ ap (λ (p : ℕ). 48 + n / p % 2) (sym (shifted_is k h))
+    puts_as (ap (λ (g : ℕ). g ∷ []) (sym (bit_glyph (n / 2 ^ k % 2) (mod-lt (n / 2 ^ k) two)))) f
 
-pub bit_put : {b b₁ : List ℕ} {p p₁ : ℕ} (n k : ℕ) → k < 32
-    → Puts b p ((48 + n / shifted k % 2) ∷ []) b₁ p₁ → Puts b p (glyph_of (n / 2 ^ k % 2) ∷ []) b₁ p₁
-bit_put n k h f = puts_as (ap (λ (g : ℕ). g ∷ []) (sym (bit_at n k h))) f
-
-pub bit_less : {b b₁ b₂ x : List ℕ} {p p₁ p₂ : ℕ} (left n : ℕ) → 0 < left → Left b p x b₁ p₁ (digits_of 2 left n)
-    → Puts b₁ p₁ (glyph_of (n / 2 ^ (left - 1) % 2) ∷ []) b₂ p₂ → Left b p x b₂ p₂ (digits_of 2 (left - 1) n)
-bit_less left n h f q = left_less (rw (digits_front 2 left n h) at f) q
+pub bit_less : {w w₁ w₂ : Writer} {x : List ℕ} (k n : ℕ) → 0 < k → Left w x w₁ (digits_of 2 k n)
+    → Puts w₁ (glyph_of (n / 2 ^ (k - 1) % 2) ∷ []) w₂ → Left w x w₂ (digits_of 2 (k - 1) n)
+bit_less k n h f q = left_less (rw (digits_front 2 k n h) at f) q

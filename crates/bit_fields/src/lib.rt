@@ -8,48 +8,44 @@ ghost use Rattle.bit_fields.specs.Pattern.{fields_text, pattern_text};
 
 use floor::{FIELD, SIGN};
 use numerals::put_hex;
-use text::{put, put_byte};
+use text::{Writer, put, put_byte};
 
 // Bit k of a number.
-fn put_bit(out: &mut [u8], at: usize, n: u32, k: u32) -> usize
+fn put_bit(out: &mut Writer, n: u32, k: u32)
     requires { k < 32 }
-    ensures { Puts out.old at (glyph_of (n / 2 ^ k % 2) ∷ []) out.new result }
+    ensures { Puts out.old (glyph_of (n / 2 ^ k % 2) ∷ []) out.new }
 {
-    let bit = n / (1 << k) % 2;
-    put_byte(out, at, 48 + bit as u8)
+    let bit = (n >> k) % 2;
+    put_byte(out, 48 + bit as u8);
 }
 
 // The last bits of a number, the most significant first.
-fn put_bits(out: &mut [u8], at: usize, n: u32, count: u32) -> usize
+fn put_bits(out: &mut Writer, n: u32, count: u32)
     requires { count ≤ 32 }
-    ensures { Puts out.old at (digits_of 2 count n) out.new result }
+    ensures { Puts out.old (digits_of 2 count n) out.new }
 {
-    let mut next = at;
-    let mut left = count;
-    while left > 0 {
-        left -= 1;
-        next = put_bit(out, next, n, left);
+    for k in (0..count).rev() {
+        put_bit(out, n, k);
     }
-    next
 }
 
 // The sign, the field of the exponent and the fraction, a space between two.
-fn put_fields(out: &mut [u8], at: usize, b: u32) -> usize
-    ensures { Puts out.old at (fields_text b) out.new result }
+fn put_fields(out: &mut Writer, b: u32)
+    ensures { Puts out.old (fields_text b) out.new }
 {
-    let mut next = put_bits(out, at, b / SIGN, 1);
-    next = put(out, next, b" ");
-    next = put_bits(out, next, b / FIELD, 8);
-    next = put(out, next, b" ");
-    put_bits(out, next, b, 23)
+    put_bits(out, b / SIGN, 1);
+    put(out, b" ");
+    put_bits(out, b / FIELD, 8);
+    put(out, b" ");
+    put_bits(out, b, 23);
 }
 
 // The pattern in hexadecimal, then bit by bit.
-pub fn put_pattern(out: &mut [u8], at: usize, b: u32) -> usize
-    ensures { Puts out.old at (pattern_text b) out.new result }
+pub fn put_pattern(out: &mut Writer, b: u32)
+    ensures { Puts out.old (pattern_text b) out.new }
 {
-    let mut next = put(out, at, b"0x");
-    next = put_hex(out, next, b);
-    next = put(out, next, b"  ");
-    put_fields(out, next, b)
+    put(out, b"0x");
+    put_hex(out, b);
+    put(out, b"  ");
+    put_fields(out, b);
 }

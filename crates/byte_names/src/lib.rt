@@ -8,6 +8,7 @@ use code_bytes::{
     DEPTH, ENVELOPE_SPAN, ENVELOPES, ENVELOPES_END, GATE_TIME, LFO_SPAN, LFOS_END, POLE, PULSE,
     RESONANCE, SAW, SOURCE,
 };
+use text::Writer;
 use words::{index_of, put_word};
 
 // Bytes with a name of their own.
@@ -21,48 +22,46 @@ const OTHERS: [u8; 7] = [
     GATE_TIME as u8,
 ];
 
-fn put_lfo_name(out: &mut [u8], at: usize, k: usize) -> usize
-    ensures { Puts out.old at (lfo_name k) out.new result }
+fn put_lfo_name(out: &mut Writer, k: usize)
+    ensures { Puts out.old (lfo_name k) out.new }
 {
-    put_word(out, at, b"rate|fade time|shape|key sync|slew rate", k)
+    put_word(out, b"rate|fade time|shape|key sync|slew rate", k);
 }
 
-fn put_envelope_name(out: &mut [u8], at: usize, k: usize) -> usize
-    ensures { Puts out.old at (envelope_name k) out.new result }
+fn put_envelope_name(out: &mut Writer, k: usize)
+    ensures { Puts out.old (envelope_name k) out.new }
 {
     put_word(
         out,
-        at,
         b"attack|decay|sustain|release|trigger mode|attack curve|decay curve|sustain curve|release curve",
         k,
-    )
+    );
 }
 
-fn put_other_name(out: &mut [u8], at: usize, n: u8) -> usize
-    ensures { Puts out.old at (other_name n) out.new result }
+fn put_other_name(out: &mut Writer, n: u8)
+    ensures { Puts out.old (other_name n) out.new }
 {
-    let k = index_of(&OTHERS, n);
+    let k = index_of(&OTHERS, n).unwrap_or(OTHERS.len());
     put_word(
         out,
-        at,
         b"PWM source|pulse|saw|PWM depth|resonance|poles|gate time|level",
         k,
-    )
+    );
 }
 
 // The name of a byte that a generator or the arpeggio reads.
-pub fn put_byte_name(out: &mut [u8], at: usize, n: u8) -> usize
-    ensures { Puts out.old at (byte_name n) out.new result }
+pub fn put_byte_name(out: &mut Writer, n: u8)
+    ensures { Puts out.old (byte_name n) out.new }
 {
     let k = n as usize;
     if k < LFOS_END {
-        return put_lfo_name(out, at, k % LFO_SPAN);
+        return put_lfo_name(out, k % LFO_SPAN);
     }
     if k < ENVELOPES {
-        return put_other_name(out, at, n);
+        return put_other_name(out, n);
     }
     if k < ENVELOPES_END {
-        return put_envelope_name(out, at, (k - ENVELOPES) % ENVELOPE_SPAN);
+        return put_envelope_name(out, (k - ENVELOPES) % ENVELOPE_SPAN);
     }
-    put_other_name(out, at, n)
+    put_other_name(out, n);
 }

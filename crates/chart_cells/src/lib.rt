@@ -9,31 +9,31 @@ use chart_places::put_place;
 use fixed_point::nearest;
 use float_bits::word_of;
 use numerals::{put_decimal, put_fixed, put_hex};
-use text::put;
+use text::{Writer, put};
 
 // A quarter of a bend is exact, and a number from 0 to 1.
-fn put_bend(out: &mut [u8], at: usize, c: u8) -> usize
-    ensures { Puts out.old at (six_places c) out.new result }
+fn put_bend(out: &mut Writer, c: u8)
+    ensures { Puts out.old (six_places c) out.new }
 {
-    put_fixed(out, at, nearest(bend(c) * 0.25, 4_000_000), 6)
+    put_fixed(out, nearest(bend(c) * 0.25, 4_000_000), 6);
 }
 
 // Its six places, and below them its bits.
-fn put_numbers(out: &mut [u8], at: usize, c: u8) -> usize
-    ensures { Puts out.old at (numbers_text c) out.new result }
+fn put_numbers(out: &mut Writer, c: u8)
+    ensures { Puts out.old (numbers_text c) out.new }
 {
-    let mut next = put_bend(out, at, c);
-    next = put(out, next, b"</text><text y='780'>");
-    put_hex(out, next, word_of(bend(c)))
+    put_bend(out, c);
+    put(out, b"</text><text y='780'>");
+    put_hex(out, word_of(bend(c)));
 }
 
-pub fn put_cell(out: &mut [u8], at: usize, c: u8) -> usize
-    ensures { Puts out.old at (cell_text c) out.new result }
+pub fn put_cell(out: &mut Writer, c: u8)
+    ensures { Puts out.old (cell_text c) out.new }
 {
-    let mut next = put_place(out, at, c);
-    next = put(out, next, b"<text class='c'>");
-    next = put_decimal(out, next, c as u64);
-    next = put(out, next, b"</text><text y='390'>");
-    next = put_numbers(out, next, c);
-    put(out, next, b"</text></g>\n")
+    put_place(out, c);
+    put(out, b"<text class='c'>");
+    put_decimal(out, c as u64);
+    put(out, b"</text><text y='390'>");
+    put_numbers(out, c);
+    put(out, b"</text></g>\n");
 }

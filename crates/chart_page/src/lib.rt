@@ -5,15 +5,14 @@ ghost use Rattle.text.specs.Text.{Puts};
 ghost use Rattle.chart_page.specs.ChartPage.{head_text, cells_text, chart_text};
 
 use chart_cells::put_cell;
-use text::put;
+use text::{Writer, put};
 
 // Styles; what the page is, how to read it, and how good a bend is; every other row on grey, and a rule where the bend has doubled.
-fn put_head(out: &mut [u8], at: usize) -> usize
-    ensures { Puts out.old at head_text out.new result }
+fn put_head(out: &mut Writer)
+    ensures { Puts out.old head_text out.new }
 {
     put(
         out,
-        at,
         b"<svg xmlns='http://www.w3.org/2000/svg' width='297mm' height='210mm' viewBox='0 0 29700 21000'>\n\
           <style>@page{size:A4 landscape;margin:0}text{font:390px Helvetica,Arial,sans-serif}\
           .c{font-size:370px;font-weight:bold}.h{font-size:560px;font-weight:bold}.m{font-size:320px}\
@@ -28,23 +27,19 @@ fn put_head(out: &mut [u8], at: usize) -> usize
     )
 }
 
-fn put_cells(out: &mut [u8], at: usize) -> usize
-    ensures { Puts out.old at (cells_text 256) out.new result }
+fn put_cells(out: &mut Writer)
+    ensures { Puts out.old (cells_text 256) out.new }
 {
-    let mut next = at;
-    let mut c: u16 = 0;
-    while c < 256 {
-        next = put_cell(out, next, c as u8);
-        c += 1;
+    for c in 0..256u16 {
+        put_cell(out, c as u8);
     }
-    next
 }
 
-// Writes the page from the buffer's start on, and answers where it ends.
-pub fn page(out: &mut [u8]) -> usize
-    ensures { Puts out.old 0 chart_text out.new result }
+// Puts the page.
+pub fn page(out: &mut Writer)
+    ensures { Puts out.old chart_text out.new }
 {
-    let mut next = put_head(out, 0);
-    next = put_cells(out, next);
-    put(out, next, b"</svg>\n")
+    put_head(out);
+    put_cells(out);
+    put(out, b"</svg>\n");
 }

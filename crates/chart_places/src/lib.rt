@@ -5,15 +5,15 @@ ghost use Rattle.text.specs.Text.{Puts};
 ghost use Rattle.chart_places.specs.Places.{place_text};
 
 use numerals::put_decimal;
-use text::put;
+use text::{Writer, put};
 
 // Where the cell of curve byte c stands: 16 of them in a row.
-pub fn put_place(out: &mut [u8], at: usize, c: u8) -> usize
-    ensures { Puts out.old at (place_text c) out.new result }
+pub fn put_place(out: &mut Writer, c: u8)
+    ensures { Puts out.old (place_text c) out.new }
 {
-    let mut next = put(out, at, b"<g transform='translate(");
-    next = put_decimal(out, next, 820 + 1768 * (c as u64 % 16));
-    next = put(out, next, b" ");
-    next = put_decimal(out, next, 1730 + 1190 * (c as u64 / 16));
-    put(out, next, b")scale(.86 1)'>")
+    put(out, b"<g transform='translate(");
+    put_decimal(out, 820 + 1768 * (c as u64 % 16));
+    put(out, b" ");
+    put_decimal(out, 1730 + 1190 * (c as u64 / 16));
+    put(out, b")scale(.86 1)'>");
 }

@@ -1,16 +1,15 @@
 -- THE BYTES THAT ARE DRAWN: docs/SPECIFICATION.md, "What differs". Definitions only.
-use Rattle.std.specs.Prelude.{Bool, true, false, cond, ℕ, zero, suc, eqb, ltb, length}
+use Rattle.std.specs.Prelude.{Bool, true, false, cond, ℕ, zero, suc, eqb, ltb, length, Option, Some, None}
 use Rattle.words.specs.Words.{index_of}
-use Rattle.codes.specs.declared.CodeRead.{CodeRead}
-use Rattle.codes.specs.declared.CodeRead.TheVariants.{Known, Above}
+use Rattle.codes.specs.declared.Code.{Code}
 use Rattle.codes.specs.Codes.{code_of}
 use Rattle.code_bytes.specs.Bytes.{bytes_of, gates_byte}
 
 -- ---- which bytes are drawn
 -- Byte n is among those that a code reads: its place is one of the list's.
-unfoldable pub read_by : CodeRead → ℕ → Bool
-read_by (Known c) n = ltb (index_of (bytes_of c) n) (length (bytes_of c))
-read_by Above n = false
+unfoldable pub read_by : Option Code → ℕ → Bool
+read_by (Some c) n = ltb (index_of (bytes_of c) n) (length (bytes_of c))
+read_by None n = false
 
 -- One of the first k codes reads byte n.
 unfoldable pub drawn_by : ℕ → ℕ → Bool

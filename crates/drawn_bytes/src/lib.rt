@@ -6,8 +6,7 @@ ghost use Rattle.codes.specs.Codes.{code_of};
 ghost use Rattle.drawn_bytes.specs.Drawn.{read_by, drawn};
 
 use code_bytes::{GATE_TIME, bytes_of};
-use codes::{CODES, CodeRead, code_from};
-use words::index_of;
+use codes::{CODES, code_from};
 
 // How many bytes a block has.
 pub const BYTES: u8 = 242;
@@ -17,14 +16,12 @@ pub const BYTES: u8 = 242;
 fn reads(k: u8, n: u8) -> bool
     ensures { result ≡ read_by (code_of k) n }
 {
-    let read = code_from(k);
-    match read {
-        CodeRead::Known(code) => {
+    match code_from(k) {
+        Some(code) => {
             let bytes = bytes_of(code);
-            let numbers = bytes.at;
-            index_of(&numbers[..bytes.count], n) < bytes.count
+            bytes.at[..bytes.count].contains(&n)
         }
-        CodeRead::Above => false,
+        None => false,
     }
 }
 
@@ -35,9 +32,7 @@ pub fn is_drawn(n: u8) -> bool
     if n as usize == GATE_TIME {
         return true;
     }
-    let mut k: u8 = CODES;
-    while k > 0 {
-        k -= 1;
+    for k in 0..CODES {
         if reads(k, n) {
             return true;
         }

@@ -5,7 +5,7 @@ ghost use Rattle.std.specs.Prelude.{◌≡◌, ◌<◌};
 ghost use Rattle.text.specs.Text.{Puts};
 ghost use Rattle.escapes.specs.Escaped.{upper_of, hex_byte_of, shown_of, escaped_of, escaped_all, shown_all};
 
-use text::{put, put_byte};
+use text::{Writer, put, put_byte};
 use words::{index_of, put_word};
 
 // The character of a digit, in capitals.
@@ -20,60 +20,51 @@ fn upper(d: u8) -> u8
 }
 
 // A byte by its two digits.
-fn put_hex_byte(out: &mut [u8], at: usize, b: u8) -> usize
-    ensures { Puts out.old at (hex_byte_of b) out.new result }
+fn put_hex_byte(out: &mut Writer, b: u8)
+    ensures { Puts out.old (hex_byte_of b) out.new }
 {
-    let first = put(out, at, b"\\x");
-    let second = put_byte(out, first, upper(b / 16));
-    put_byte(out, second, upper(b % 16))
+    put(out, b"\\x");
+    put_byte(out, upper(b / 16));
+    put_byte(out, upper(b % 16));
 }
 
 // A byte that has no meaning of its own in XML.
-fn put_shown(out: &mut [u8], at: usize, b: u8) -> usize
-    ensures { Puts out.old at (shown_of b) out.new result }
+fn put_shown(out: &mut Writer, b: u8)
+    ensures { Puts out.old (shown_of b) out.new }
 {
     if b < 32 {
-        return put_hex_byte(out, at, b);
+        return put_hex_byte(out, b);
     }
     if 126 < b {
-        return put_hex_byte(out, at, b);
+        return put_hex_byte(out, b);
     }
-    put_byte(out, at, b)
+    put_byte(out, b);
 }
 
 // Any byte as XML text: one that has a meaning of its own there by its entity.
-pub fn put_escaped(out: &mut [u8], at: usize, b: u8) -> usize
-    ensures { Puts out.old at (escaped_of b) out.new result }
+pub fn put_escaped(out: &mut Writer, b: u8)
+    ensures { Puts out.old (escaped_of b) out.new }
 {
-    let k = index_of(b"&<>\"'", b);
-    if k < 5 {
-        return put_word(out, at, b"&amp;|&lt;|&gt;|&quot;|&#39;", k);
+    match index_of(b"&<>\"'", b) {
+        Some(k) => put_word(out, b"&amp;|&lt;|&gt;|&quot;|&#39;", k),
+        None => put_shown(out, b),
     }
-    put_shown(out, at, b)
 }
 
 // Any bytes as XML text.
-pub fn put_escaped_all(out: &mut [u8], at: usize, text: &[u8]) -> usize
-    ensures { Puts out.old at (escaped_all text.now) out.new result }
+pub fn put_escaped_all(out: &mut Writer, text: &[u8])
+    ensures { Puts out.old (escaped_all text.now) out.new }
 {
-    let mut next = at;
-    let mut i: usize = 0;
-    while i < text.len() {
-        next = put_escaped(out, next, text[i]);
-        i += 1;
+    for b in text {
+        put_escaped(out, *b);
     }
-    next
 }
 
 // Any bytes as a line that can be read.
-pub fn put_shown_all(out: &mut [u8], at: usize, text: &[u8]) -> usize
-    ensures { Puts out.old at (shown_all text.now) out.new result }
+pub fn put_shown_all(out: &mut Writer, text: &[u8])
+    ensures { Puts out.old (shown_all text.now) out.new }
 {
-    let mut next = at;
-    let mut i: usize = 0;
-    while i < text.len() {
-        next = put_shown(out, next, text[i]);
-        i += 1;
+    for b in text {
+        put_shown(out, *b);
     }
-    next
 }

@@ -13,87 +13,87 @@ use float_bits::{float_of, word_of};
 use floor::{FIELD, ONE, SIGN, WHOLE, floor};
 use floor_number::{put_exponent, put_floor_number};
 use floor_reasons::{put_cleared_reason, put_small_reason, put_step_reason};
-use text::put;
+use text::{Writer, put};
 
 // A pattern on a line, behind what it is.
-fn put_line(out: &mut [u8], at: usize, name: &[u8], b: u32) -> usize
-    ensures { Puts out.old at (line_of name.now b) out.new result }
+fn put_line(out: &mut Writer, name: &[u8], b: u32)
+    ensures { Puts out.old (line_of name.now b) out.new }
 {
-    let mut next = put(out, at, name);
-    next = put_pattern(out, next, b);
-    put(out, next, b"\n")
+    put(out, name);
+    put_pattern(out, b);
+    put(out, b"\n");
 }
 
 // The exponent, and what follows from it.
-fn put_head(out: &mut [u8], at: usize, b: u32, follows: &[u8]) -> usize
-    ensures { Puts out.old at (head_of b follows.now) out.new result }
+fn put_head(out: &mut Writer, b: u32, follows: &[u8])
+    ensures { Puts out.old (head_of b follows.now) out.new }
 {
-    let mut next = put(out, at, b"exponent ");
-    next = put_exponent(out, next, b);
-    put(out, next, follows)
+    put(out, b"exponent ");
+    put_exponent(out, b);
+    put(out, follows);
 }
 
 // The floor at an exponent below 23: its pattern, and the whole number that it is.
-fn put_floor(out: &mut [u8], at: usize, b: u32) -> usize
+fn put_floor(out: &mut Writer, b: u32)
     requires { b % 2 ^ 31 / 2 ^ 23 < 150 }
-    ensures { Puts out.old at (floor_line b) out.new result }
+    ensures { Puts out.old (floor_line b) out.new }
 {
-    let mut next = put(out, at, b"floor    ");
-    next = put_pattern(out, next, word_of(floor(float_of(b))));
-    next = put(out, next, b"  ");
-    next = put_floor_number(out, next, b);
-    put(out, next, b"\n")
+    put(out, b"floor    ");
+    put_pattern(out, word_of(floor(float_of(b))));
+    put(out, b"  ");
+    put_floor_number(out, b);
+    put(out, b"\n");
 }
 
 // ---- an exponent below 0
-fn put_small(out: &mut [u8], at: usize, b: u32) -> usize
+fn put_small(out: &mut Writer, b: u32)
     requires { b % 2 ^ 31 / 2 ^ 23 < 127 }
-    ensures { Puts out.old at (small_text b) out.new result }
+    ensures { Puts out.old (small_text b) out.new }
 {
-    let mut next = put_head(out, at, b, b", below 0: ");
-    next = put_small_reason(out, next, b);
-    put_floor(out, next, b)
+    put_head(out, b, b", below 0: ");
+    put_small_reason(out, b);
+    put_floor(out, b);
 }
 
 // ---- an exponent from 0 to 22, where k bits of the fraction stand below the point
-fn put_cut(out: &mut [u8], at: usize, b: u32, k: u32) -> usize
+fn put_cut(out: &mut Writer, b: u32, k: u32)
     requires { (0 < k) × (k ≤ 23) × (b % 2 ^ 31 / 2 ^ 23 + k ≡ 150) }
-    ensures { Puts out.old at (cut_text k b) out.new result }
+    ensures { Puts out.old (cut_text k b) out.new }
 {
     let low = b % (1 << k);
-    let mut next = put_head(out, at, b, b", from 0 to 22: ");
-    next = put_cleared_reason(out, next, k);
-    next = put_line(out, next, b"cleared  ", b - low);
-    next = put_step_reason(out, next, b, low != 0);
-    put_floor(out, next, b)
+    put_head(out, b, b", from 0 to 22: ");
+    put_cleared_reason(out, k);
+    put_line(out, b"cleared  ", b - low);
+    put_step_reason(out, b, low != 0);
+    put_floor(out, b);
 }
 
 // ---- an exponent of 23 or more
-fn put_large(out: &mut [u8], at: usize, b: u32) -> usize
-    ensures { Puts out.old at (large_text b) out.new result }
+fn put_large(out: &mut Writer, b: u32)
+    ensures { Puts out.old (large_text b) out.new }
 {
-    let next = put_head(out, at, b, b", 23 or more: x itself\n");
-    put_line(out, next, b"floor    ", b)
+    put_head(out, b, b", 23 or more: x itself\n");
+    put_line(out, b"floor    ", b);
 }
 
 // ---- the whole
-fn put_case(out: &mut [u8], at: usize, b: u32) -> usize
-    ensures { Puts out.old at (case_text (exponent b) b) out.new result }
+fn put_case(out: &mut Writer, b: u32)
+    ensures { Puts out.old (case_text (exponent b) b) out.new }
 {
     let field = b % SIGN / FIELD;
     if field < ONE {
-        return put_small(out, at, b);
+        return put_small(out, b);
     }
     if field < WHOLE {
-        return put_cut(out, at, b, WHOLE - field);
+        return put_cut(out, b, WHOLE - field);
     }
-    put_large(out, at, b)
+    put_large(out, b);
 }
 
 // The floor of a bit pattern, worked as on paper.
-pub fn put_working(out: &mut [u8], at: usize, b: u32) -> usize
-    ensures { Puts out.old at (working_text b) out.new result }
+pub fn put_working(out: &mut Writer, b: u32)
+    ensures { Puts out.old (working_text b) out.new }
 {
-    let next = put_line(out, at, b"x        ", b);
-    put_case(out, next, b)
+    put_line(out, b"x        ", b);
+    put_case(out, b);
 }

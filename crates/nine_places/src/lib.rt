@@ -6,11 +6,13 @@ ghost use Rattle.nine_places.specs.Places.{nine_places};
 
 use fixed_point::nearest;
 use numerals::put_fixed;
+use text::Writer;
 
 const BILLION: u32 = 1_000_000_000;
 
-pub fn put_nine_places(out: &mut [u8], at: usize, x: f32) -> usize
-    ensures { Puts out.old at (nine_places x) out.new result }
+#[tactic(auto, unfolding(crate::specs::Places::nine_places))]
+pub fn put_nine_places(out: &mut Writer, x: f32)
+    ensures { Puts out.old (nine_places x) out.new }
 {
-    put_fixed(out, at, nearest(x, BILLION), 9)
+    put_fixed(out, nearest(x, BILLION), 9);
 }

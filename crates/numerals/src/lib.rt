@@ -5,8 +5,7 @@ ghost use Rattle.std.specs.Prelude.{◌≡◌, ◌-◌, ◌^◌, ◌<◌, ◌≤
 ghost use Rattle.text.specs.Text.{Puts};
 ghost use Rattle.numerals.specs.Spelled.{glyph_of, digits_of, digit_count, decimal_of, hex_of, fixed_of};
 
-use lists::at_most;
-use text::{put, put_byte};
+use text::{Writer, put, put_byte};
 
 // The character of a digit.
 fn glyph(d: u64) -> u8
@@ -19,70 +18,50 @@ fn glyph(d: u64) -> u8
     87 + d as u8
 }
 
-// A power that fits.
-fn power(base: u64, k: usize) -> u64
-    requires { (1 < base) × (base ^ k < 2 ^ 64) }
-    ensures { result ≡ base ^ k }
-{
-    let mut product: u64 = 1;
-    let mut i: usize = 0;
-    while i < k {
-        product *= base;
-        i += 1;
-    }
-    product
-}
-
 // The last digits of a number, the most significant first.
-fn put_digits(out: &mut [u8], at: usize, n: u64, base: u64, count: usize) -> usize
+fn put_digits(out: &mut Writer, n: u64, base: u64, count: u32)
     requires { (1 < base) × (base ≤ 16) × (base ^ (count - 1) < 2 ^ 64) }
-    ensures { Puts out.old at (digits_of base count n) out.new result }
+    ensures { Puts out.old (digits_of base count n) out.new }
 {
-    let mut next = at;
-    let mut left = count;
-    while left > 0 {
-        left -= 1;
-        let digit = n / power(base, left) % base;
-        next = put_byte(out, next, glyph(digit));
+    for k in (0..count).rev() {
+        let digit = n / base.pow(k) % base;
+        put_byte(out, glyph(digit));
     }
-    next
 }
 
 // How many digits a number has.
-fn places(n: u64) -> usize
+fn places(n: u64) -> u32
     ensures { (result ≡ digit_count n) × (1 ≤ result) × (result ≤ 20) }
 {
-    let mut k: usize = 1;
-    while k < 20 {
-        if n < power(10, k) {
+    for k in 1..20 {
+        if n < 10u64.pow(k) {
             return k;
         }
-        k += 1;
     }
     20
 }
 
 // A number in decimal.
-pub fn put_decimal(out: &mut [u8], at: usize, n: u64) -> usize
-    ensures { Puts out.old at (decimal_of n) out.new result }
+pub fn put_decimal(out: &mut Writer, n: u64)
+    ensures { Puts out.old (decimal_of n) out.new }
 {
-    put_digits(out, at, n, 10, places(n))
+    put_digits(out, n, 10, places(n));
 }
 
 // Eight hexadecimal digits.
-pub fn put_hex(out: &mut [u8], at: usize, n: u32) -> usize
-    ensures { Puts out.old at (hex_of n) out.new result }
+pub fn put_hex(out: &mut Writer, n: u32)
+    ensures { Puts out.old (hex_of n) out.new }
 {
-    put_digits(out, at, n as u64, 16, 8)
+    put_digits(out, n as u64, 16, 8);
 }
 
 // A number with a point before its last digits.
-pub fn put_fixed(out: &mut [u8], at: usize, n: u64, places: usize) -> usize
-    ensures { Puts out.old at (fixed_of n places) out.new result }
+pub fn put_fixed(out: &mut Writer, n: u64, places: usize)
+    ensures { Puts out.old (fixed_of n places) out.new }
 {
-    let k = at_most(places, 19);
-    let whole = n / power(10, k);
-    let point = put_decimal(out, at, whole);
-    let rest = put(out, point, b".");
-    put_digits(out, rest, n, 10, k)
+    let k = places.min(19) as u32;
+    let whole = n / 10u64.pow(k);
+    put_decimal(out, whole);
+    put(out, b".");
+    put_digits(out, n, 10, k);
 }

@@ -4,15 +4,15 @@
 ghost use Rattle.text.specs.Text.{Puts};
 ghost use Rattle.parameter_names.specs.ParameterNames.{parameter_name};
 
+use text::Writer;
 use words::put_word;
 
 // The name of the parameter in byte n; of a byte past the last, the last parameter's.
-pub fn put_parameter_name(out: &mut [u8], at: usize, n: u8) -> usize
-    ensures { Puts out.old at (parameter_name n) out.new result }
+pub fn put_parameter_name(out: &mut Writer, n: u8)
+    ensures { Puts out.old (parameter_name n) out.new }
 {
     put_word(
         out,
-        at,
         b"LFO 1 Rate|LFO 1 Delay / Fade|LFO 1 Shape|LFO 1 Key Sync|LFO 1 Arp Sync|LFO 1 Mono Mode|\
           LFO 1 Slew Rate|LFO 2 Rate|LFO 2 Delay / Fade|LFO 2 Shape|LFO 2 Key Sync|LFO 2 Arp Sync|\
           LFO 2 Mono Mode|LFO 2 Slew Rate|\
@@ -68,5 +68,5 @@ pub fn put_parameter_name(out: &mut [u8], at: usize, n: u8) -> usize
           Program Name Char 14|Program Name Char 15|Program Name Char 16|Program Name Char 17|\
           Program Category|Program Transpose",
         n as usize,
-    )
+    );
 }

@@ -9,25 +9,22 @@ ghost use Rattle.parameter_rows.specs.Rows.{row_text, rows_text};
 use drawn_bytes::BYTES;
 use parameter_cells::{put_cells, put_dot, put_rule};
 use parameter_places::put_place;
+use text::Writer;
 
-fn put_row(out: &mut [u8], at: usize, n: u8, b: u8) -> usize
-    ensures { Puts out.old at (row_text n b) out.new result }
+fn put_row(out: &mut Writer, n: u8, b: u8)
+    ensures { Puts out.old (row_text n b) out.new }
 {
-    let mut next = put_place(out, at, n);
-    next = put_rule(out, next, n);
-    next = put_dot(out, next, n);
-    put_cells(out, next, n, b)
+    put_place(out, n);
+    put_rule(out, n);
+    put_dot(out, n);
+    put_cells(out, n, b);
 }
 
-pub fn put_rows(out: &mut [u8], at: usize, block: &[u8]) -> usize
+pub fn put_rows(out: &mut Writer, block: &[u8])
     requires { length block.now ≡ block_length }
-    ensures { Puts out.old at (rows_text block_length (byte_at block.now)) out.new result }
+    ensures { Puts out.old (rows_text block_length (byte_at block.now)) out.new }
 {
-    let mut next = at;
-    let mut n: u8 = 0;
-    while n < BYTES {
-        next = put_row(out, next, n, block[n as usize]);
-        n += 1;
+    for n in 0..BYTES {
+        put_row(out, n, block[n as usize]);
     }
-    next
 }

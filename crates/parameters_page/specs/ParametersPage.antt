@@ -1,6 +1,8 @@
 -- THE PAGE OF ALL PARAMETERS: docs/SPECIFICATION.md, "The page of all parameters". A4, landscape, in hundredths of a millimetre. `file` is the name of the block's file, and empty
 -- where there is none. Definitions only.
-use Rattle.std.specs.Prelude.{cond, List, [], ◌++◌, ℕ, eqb, length}
+use Rattle.std.specs.Prelude.{cond, List, [], ◌++◌, ℕ, eqb, length, Result, Ok, Err}
+use Rattle.refusals.specs.declared.Refusal.{Refusal}
+use Rattle.refusals.specs.declared.Refusal.TheVariants.{Block}
 use Rattle.code_bytes.specs.Bytes.{byte_at, block_length}
 use Rattle.text.specs.Text.{ascii}
 use Rattle.provenance.specs.Provenance.{name_text, file_text}
@@ -38,3 +40,7 @@ parameters_of file block = style_text ++ head_text file block ++ rows_text block
 -- A block of another length has no page.
 unfoldable pub parameters_text : List ℕ → List ℕ → List ℕ
 parameters_text file block = cond (eqb (length block) block_length) (parameters_of file block) []
+
+-- And is refused.
+unfoldable pub page_answer : List ℕ → Result (Unit {0}) Refusal
+page_answer block = cond (eqb (length block) block_length) (Ok tt) (Err Block)

@@ -4,20 +4,20 @@
 ghost use Rattle.std.specs.Prelude.{◌≡◌, length};
 ghost use Rattle.text.specs.Text.{Puts};
 ghost use Rattle.code_bytes.specs.Bytes.{block_length};
-ghost use Rattle.parameters_page.specs.ParametersPage.{style_text, head_text, foot_text, parameters_of, parameters_text};
+ghost use Rattle.parameters_page.specs.ParametersPage.{style_text, head_text, foot_text, parameters_of, parameters_text, page_answer};
 
 use drawn_bytes::BYTES;
 use parameter_rows::put_rows;
 use provenance::{put_file, put_name};
-use text::put;
+use refusals::Refusal;
+use text::{Writer, put};
 
 // ---- head and foot
-fn put_style(out: &mut [u8], at: usize) -> usize
-    ensures { Puts out.old at style_text out.new result }
+fn put_style(out: &mut Writer)
+    ensures { Puts out.old style_text out.new }
 {
     put(
         out,
-        at,
         b"<svg xmlns='http://www.w3.org/2000/svg' width='297mm' height='210mm' viewBox='0 0 29700 21000'>\n\
           <style>@page{size:A4 landscape;margin:0}text{font:250px Helvetica,Arial,sans-serif}\
           .h{font-size:360px}.n{font-size:560px;font-weight:bold}.k{text-anchor:end;fill:#444}\
@@ -29,55 +29,53 @@ fn put_style(out: &mut [u8], at: usize) -> usize
     )
 }
 
-fn put_head(out: &mut [u8], at: usize, file: &[u8], block: &[u8]) -> usize
+fn put_head(out: &mut Writer, file: &[u8], block: &[u8])
     requires { length block.now ≡ block_length }
-    ensures { Puts out.old at (head_text file.now block.now) out.new result }
+    ensures { Puts out.old (head_text file.now block.now) out.new }
 {
-    let mut next = put(out, at, b"<title>");
-    next = put_name(out, next, file, block);
-    next = put(
-        out,
-        next,
-        b", parameters</title>\n<text class='h' x='1150' y='1450'>DeepMind 12 parameters</text><text class='n' x='6000' y='1450'>",
-    );
-    next = put_name(out, next, file, block);
-    put(out, next, b"</text><path d='M1150 1750H28550'/>\n")
-}
-
-fn put_foot(out: &mut [u8], at: usize, file: &[u8], block: &[u8]) -> usize
-    ensures { Puts out.old at (foot_text file.now block.now) out.new result }
-{
-    let mut next = put(
-        out,
-        at,
-        b"<text class='m' x='1150' y='20200'>Number, name and, in bold, the byte to dial in, 0 to 255. A dot: the sheet draws a curve from it.</text>\n<text class='m' x='1150' y='20540'>",
-    );
-    next = put_file(out, next, file, block);
+    put(out, b"<title>");
+    put_name(out, file, block);
     put(
         out,
-        next,
+        b", parameters</title>\n<text class='h' x='1150' y='1450'>DeepMind 12 parameters</text><text class='n' x='6000' y='1450'>",
+    );
+    put_name(out, file, block);
+    put(out, b"</text><path d='M1150 1750H28550'/>\n");
+}
+
+fn put_foot(out: &mut Writer, file: &[u8], block: &[u8])
+    ensures { Puts out.old (foot_text file.now block.now) out.new }
+{
+    put(
+        out,
+        b"<text class='m' x='1150' y='20200'>Number, name and, in bold, the byte to dial in, 0 to 255. A dot: the sheet draws a curve from it.</text>\n<text class='m' x='1150' y='20540'>",
+    );
+    put_file(out, file, block);
+    put(
+        out,
         b". The curves are on the sheet: juvrada sheet.</text>\n</svg>\n",
-    )
+    );
 }
 
 // ---- the whole
-fn put_page(out: &mut [u8], file: &[u8], block: &[u8]) -> usize
+fn put_page(out: &mut Writer, file: &[u8], block: &[u8])
     requires { length block.now ≡ block_length }
-    ensures { Puts out.old 0 (parameters_of file.now block.now) out.new result }
+    ensures { Puts out.old (parameters_of file.now block.now) out.new }
 {
-    let mut next = put_style(out, 0);
-    next = put_head(out, next, file, block);
-    next = put_rows(out, next, block);
-    put_foot(out, next, file, block)
+    put_style(out);
+    put_head(out, file, block);
+    put_rows(out, block);
+    put_foot(out, file, block);
 }
 
-// Writes the page of a block's parameters from the buffer's start on, and answers where it ends. `file` is the name of the block's file.
-// A block of another length writes nothing.
-pub fn page(file: &[u8], block: &[u8], out: &mut [u8]) -> usize
-    ensures { Puts out.old 0 (parameters_text file.now block.now) out.new result }
+// Puts the page of a block's parameters. `file` is the name of the block's file. Of a block of another length nothing is put.
+pub fn page(out: &mut Writer, file: &[u8], block: &[u8]) -> Result<(), Refusal>
+    ensures text { Puts out.old (parameters_text file.now block.now) out.new }
+    ensures answer { result ≡ page_answer block.now }
 {
     if block.len() != BYTES as usize {
-        return 0;
+        return Err(Refusal::Block);
     }
-    put_page(out, file, block)
+    put_page(out, file, block);
+    Ok(())
 }

@@ -1,13 +1,13 @@
 // The program's name, as XML and as a line that can be read.
 #![tactic(auto)]
 
-ghost use Rattle.std.specs.Prelude.{◌≡◌, ◌≤◌, length};
+ghost use Rattle.std.specs.Prelude.{◌≡◌, ◌≢◌, ◌≤◌, length, MatchOption};
 ghost use Rattle.text.specs.Text.{Puts};
 ghost use Rattle.code_bytes.specs.Bytes.{block_length};
-ghost use Rattle.program_name.specs.ProgramName.{name_end, name_in_xml, name_in_line};
+ghost use Rattle.program_name.specs.ProgramName.{name_end, program_name, name_in_xml, name_in_line};
 
 use escapes::{put_escaped_all, put_shown_all};
-use text::put;
+use text::{Writer, put};
 
 // The bytes of the name, with its terminator.
 const NAME: usize = 223;
@@ -19,36 +19,44 @@ fn name_end(block: &[u8]) -> usize
     requires { length block.now ≡ block_length }
     ensures { (result ≡ name_end block.now) × (223 ≤ result) × (result ≤ 240) }
 {
-    let mut i: usize = NAME;
-    while i < NAME_END {
+    for i in NAME..NAME_END {
         if block[i] == 0 {
             return i;
         }
-        i += 1;
     }
-    i
+    NAME_END
+}
+
+// The name, if it has a character.
+fn name(block: &[u8]) -> Option<&[u8]>
+    requires { length block.now ≡ block_length }
+    ensures { MatchOption result (name_end block.now ≡ 223) (λ name. (name_end block.now ≢ 223) × (name.now ≡ program_name block.now)) }
+{
+    let end = name_end(block);
+    if end == NAME {
+        return None;
+    }
+    Some(&block[NAME..end])
 }
 
 // The name as XML, or `unnamed` where it has no character.
-pub fn put_name_in_xml(out: &mut [u8], at: usize, block: &[u8], unnamed: &[u8]) -> usize
+pub fn put_name_in_xml(out: &mut Writer, block: &[u8], unnamed: &[u8])
     requires { length block.now ≡ block_length }
-    ensures { Puts out.old at (name_in_xml unnamed.now block.now) out.new result }
+    ensures { Puts out.old (name_in_xml unnamed.now block.now) out.new }
 {
-    let end = name_end(block);
-    if end == NAME {
-        return put(out, at, unnamed);
+    match name(block) {
+        Some(name) => put_escaped_all(out, name),
+        None => put(out, unnamed),
     }
-    put_escaped_all(out, at, &block[NAME..end])
 }
 
 // The same as a line that can be read.
-pub fn put_name_in_line(out: &mut [u8], at: usize, block: &[u8], unnamed: &[u8]) -> usize
+pub fn put_name_in_line(out: &mut Writer, block: &[u8], unnamed: &[u8])
     requires { length block.now ≡ block_length }
-    ensures { Puts out.old at (name_in_line unnamed.now block.now) out.new result }
+    ensures { Puts out.old (name_in_line unnamed.now block.now) out.new }
 {
-    let end = name_end(block);
-    if end == NAME {
-        return put(out, at, unnamed);
+    match name(block) {
+        Some(name) => put_shown_all(out, name),
+        None => put(out, unnamed),
     }
-    put_shown_all(out, at, &block[NAME..end])
 }

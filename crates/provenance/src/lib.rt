@@ -10,34 +10,34 @@ use escapes::put_escaped_all;
 use fingerprint::crc32;
 use numerals::put_hex;
 use program_name::put_name_in_xml;
-use text::put;
+use text::{Writer, put};
 
 // The name, and what stands in its place where it has no character.
-pub fn put_name(out: &mut [u8], at: usize, file: &[u8], block: &[u8]) -> usize
+pub fn put_name(out: &mut Writer, file: &[u8], block: &[u8])
     requires { length block.now ≡ block_length }
-    ensures { Puts out.old at (name_text file.now block.now) out.new result }
+    ensures { Puts out.old (name_text file.now block.now) out.new }
 {
     if file.len() == 0 {
-        return put_name_in_xml(out, at, block, b"(empty program)");
+        return put_name_in_xml(out, block, b"(empty program)");
     }
-    put_name_in_xml(out, at, block, b"(no name)")
+    put_name_in_xml(out, block, b"(no name)");
 }
 
-fn put_file_name(out: &mut [u8], at: usize, file: &[u8]) -> usize
-    ensures { Puts out.old at (file_name file.now) out.new result }
+fn put_file_name(out: &mut Writer, file: &[u8])
+    ensures { Puts out.old (file_name file.now) out.new }
 {
     if file.len() == 0 {
-        return put(out, at, b"No file");
+        return put(out, b"No file");
     }
-    let next = put(out, at, b"File ");
-    put_escaped_all(out, next, file)
+    put(out, b"File ");
+    put_escaped_all(out, file);
 }
 
 // Which file the block is from, and its CRC-32.
-pub fn put_file(out: &mut [u8], at: usize, file: &[u8], block: &[u8]) -> usize
-    ensures { Puts out.old at (file_text file.now block.now) out.new result }
+pub fn put_file(out: &mut Writer, file: &[u8], block: &[u8])
+    ensures { Puts out.old (file_text file.now block.now) out.new }
 {
-    let mut next = put_file_name(out, at, file);
-    next = put(out, next, b", CRC-32 ");
-    put_hex(out, next, crc32(block))
+    put_file_name(out, file);
+    put(out, b", CRC-32 ");
+    put_hex(out, crc32(block));
 }

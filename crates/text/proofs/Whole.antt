@@ -12,6 +12,7 @@ use borrow.Author.Tests.{lt-ltb, le-ltb}
 use lib.Dec.{ltb}
 use lib.ListN.{length, take, drop, set, length-set}
 use lib.Seq.{sets, sets-eq}
+use Rattle.text.specs.declared.Writer.{Writer}
 use Rattle.text.specs.Text.{Page, put_byte, put_all, Puts}
 
 byte_length : (p : Page) (b : ℕ) → length (put_byte p b).buffer ≡ length p.buffer
@@ -28,8 +29,8 @@ all_length p [] = refl
 all_length p (b ∷ text) = all_length (put_byte p b) text ∙ byte_length p b
 
 -- The length of the buffer stays.
-pub same_length : {before text after : List ℕ} {at r : ℕ} → Puts before at text after r → length after ≡ length before
-same_length {before} {text} {at = at} f = ap (λ (q : Page). length q.buffer) f.page ∙ all_length _ text
+pub same_length : {before after : Writer} {text : List ℕ} → Puts before text after → length after.buffer.now ≡ length before.buffer.now
+same_length {text = text} f = ap (λ (q : Page). length q.buffer) f.page ∙ all_length _ text
 
 byte_fits : (before : List ℕ) (at b : ℕ) → at < length before → put_byte (record { buffer = before; at = at }) b ≡ record { buffer = set before at b; at = suc at }
 unfolding put_byte
@@ -45,11 +46,11 @@ fits before at (b ∷ text) h =
     rw (byte_fits before at b here, fits (set before at b) (suc at) text next, e)
 
 -- A text that fits stands there whole.
-pub whole : {before text after : List ℕ} {at r : ℕ} → at + length text ≤ length before → Puts before at text after r
-    → (after ≡ take at before ++ text ++ drop (at + length text) before) × (r ≡ at + length text)
-whole {before} {text} {after} {at} h f =
-    let e = f.page ∙ fits before at text h in
-    (ap (λ (q : Page). q.buffer) e ∙ sets-eq text before at h, ap (λ (q : Page). q.at) e)
+pub whole : {before after : Writer} {text : List ℕ} → before.at + length text ≤ length before.buffer.now → Puts before text after
+    → (after.buffer.now ≡ take before.at before.buffer.now ++ text ++ drop (before.at + length text) before.buffer.now) × (after.at ≡ before.at + length text)
+whole {before} {text = text} h f =
+    let e = f.page ∙ fits before.buffer.now before.at text h in
+    (ap (λ (q : Page). q.buffer) e ∙ sets-eq text before.buffer.now before.at h, ap (λ (q : Page). q.at) e)
 
 full : (before : List ℕ) (at : ℕ) (text : List ℕ) → length before ≤ at → put_all (record { buffer = before; at = at }) text ≡ record { buffer = before; at = at }
 unfolding put_all put_byte
@@ -69,6 +70,6 @@ fits_below before at (b ∷ text) h = ⊎_elim (λ z. outside (omega arith)) (λ
         let e : (put_all (record { buffer = before; at = at }) (b ∷ text)).at ≡ at = ap (λ (q : Page). q.at) (full before at (b ∷ text) g) in
         omega (arith, rw e at h)
 
--- Where the next position is below the length, the text fits.
-pub below : {before text after : List ℕ} {at r : ℕ} → Puts before at text after r → r < length after → at + length text ≤ length before
-below {before} {text} {at = at} f h = fits_below before at text (rw (ap (λ (q : Page). q.at) (sym f.page), ← same_length f) h)
+-- Where the position after it is below the length, the text fits.
+pub below : {before after : Writer} {text : List ℕ} → Puts before text after → after.at < length after.buffer.now → before.at + length text ≤ length before.buffer.now
+below {before} {text = text} f h = fits_below before.buffer.now before.at text (rw (ap (λ (q : Page). q.at) (sym f.page), ← same_length f) h)

@@ -1,7 +1,8 @@
--- TEXT WRITTEN INTO A BUFFER: docs/SPECIFICATION.md, "Written text". A writer stores its text from a position on, and answers the next position. Definitions only.
+-- TEXT WRITTEN INTO A BUFFER: docs/SPECIFICATION.md, "Written text". A writer stores its text from a position on, which moves past it. Definitions only.
 -- A text is a list of bytes. `ascii "<svg"` is the list of its characters' codes and computes at a literal, so that it is the contents of the Rust's b"<svg" by refl.
 use Rattle.std.specs.Prelude.{◌≡◌, cond, List, [], ◌∷◌, ◌++◌, ℕ, zero, suc, ◌+◌, ltb, length, set}
 use Prim.Native.Char.{code}
+use Rattle.text.specs.declared.Writer.{Writer}
 use Prim.Native.String.{String, [] as []ˢ, ◌∷◌ as ◌∷ˢ◌}
 
 -- The bytes of a text in ASCII: the codes of its characters.
@@ -28,6 +29,10 @@ unfoldable pub put_all : Page → List ℕ → Page
 put_all p [] = p
 put_all p (b ∷ text) = put_all (put_byte p b) text
 
--- The buffer `before`, with the text put at a position, is `after`, and r is the next position. A text is whole where r is below the length.
-pub record Puts (before : List ℕ) (at : ℕ) (text after : List ℕ) (r : ℕ) : Type 0 where
-  pub page : record { buffer = after; at = r } ≡ put_all (record { buffer = before; at = at }) text
+-- The buffer and the position of a writer.
+abbrev pub page_of : Writer → Page
+page_of w = record { buffer = w.buffer.now; at = w.at }
+
+-- The text put by a writer, which is `before` and then `after`. A text is whole where the position after it is below the buffer's length.
+pub record Puts (before : Writer) (text : List ℕ) (after : Writer) : Type 0 where
+  pub page : page_of after ≡ put_all (page_of before) text

@@ -1,5 +1,6 @@
 -- Words in a row, byte by byte: what a bar, another byte and the end each do to the bytes from a place on. Assumes nothing.
-use mathlib.Core.Path.{◌≡◌, refl}
+use mathlib.Core.Path.{◌≡◌, refl, sym}
+use Rattle.std.specs.Prelude.{Option, Some, None, MatchOption, unwrap_or}
 use mathlib.Core.List.{List, [], ◌∷◌}
 use Prim.Native.Nat.{ℕ, zero, suc, ◌+◌, ◌-◌, ◌<◌, ◌≤◌}
 use native.Mathlib.Numerals.{add-one}
@@ -35,24 +36,14 @@ module _ (s : List ℕ) (i : ℕ) where
   word_end h = rw (drop_of_length-le s h)
 
 -- ---- word k, a word at a time
-predecessor : (k : ℕ) → suc k - 1 ≡ k
-predecessor k = omega arith
-
-pub word_passed : (words : List ℕ) (k : ℕ) → 0 < k → word_of words k ≡ word_of (past_bar words words) (k - 1)
+pub word_passed : (words : List ℕ) (k i : ℕ) → i < k → word_of words (k - i) ≡ word_of (past_bar words words) (k - (i + 1))
 unfolding word_of
-word_passed words zero h = absurd (omega arith)
-word_passed words (suc k) h = rw (predecessor k)
+word_passed words k i h = let e : k - i ≡ suc (k - (i + 1)) = omega arith in rw e
 
 pub word_reached : (words : List ℕ) (k : ℕ) → k ≤ 0 → first_word words ≡ word_of words k
 unfolding word_of
 word_reached words zero h = refl
 word_reached words (suc k) h = absurd (omega arith)
-
--- past the last word, no word is passed
-pub word_last : (words : List ℕ) (k : ℕ) → words ≡ past_bar words words → first_word words ≡ word_of words k
-unfolding word_of
-word_last words zero e = refl
-word_last words (suc k) e = rw (← e) (word_last words k e)
 
 -- ---- the place in a list
 module _ (list : List ℕ) (i b : ℕ) where
@@ -77,3 +68,9 @@ module _ (list : List ℕ) (i b : ℕ) where
 
     pub place_none : length list ≤ i → i ≡ place
     place_none h = omega (arith, none h)
+
+-- the place, or the length where there is none
+pub place_or_length : (list : List ℕ) (b : ℕ) (r : Option ℕ)
+    → MatchOption r (index_of list b ≡ length list) (λ k. (k < length list) × (k ≡ index_of list b)) → unwrap_or r (length list) ≡ index_of list b
+place_or_length list b (Some k) e = e.1
+place_or_length list b None e = sym e

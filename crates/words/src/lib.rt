@@ -1,70 +1,55 @@
 // One of some words, in a row with a bar between two, put into a lent buffer; and the place of a byte in a list.
 #![tactic(auto)]
 
-ghost use Rattle.std.specs.Prelude.{◌≡◌, drop};
+ghost use Rattle.std.specs.Prelude.{◌≡◌, ◌<◌, length, MatchOption};
 ghost use Rattle.text.specs.Text.{Puts};
 ghost use Rattle.words.specs.Words.{first_word, past_bar, word_of, index_of};
 
-use text::put_byte;
+use text::{Writer, put_byte};
 
-// Where the word past this one begins; of the last word, where it does.
-fn next_word(words: &[u8], from: usize) -> usize
-    ensures { drop result words.now ≡ past_bar (drop from words.now) (drop from words.now) }
+// What stands past the first bar; of the last word, the word.
+fn past_bar(words: &[u8]) -> &[u8]
+    ensures { result.now ≡ past_bar words.now words.now }
 {
-    let mut i = from;
-    while i < words.len() {
-        if words[i] == b'|' {
-            return i + 1;
+    for (i, b) in words.iter().enumerate() {
+        if *b == b'|' {
+            return &words[i + 1..];
         }
-        i += 1;
     }
-    from
+    words
 }
 
-// Where word k begins.
-fn word_at(words: &[u8], k: usize) -> usize
-    ensures { first_word (drop result words.now) ≡ word_of words.now k }
+// The words from word k on.
+fn words_from(words: &[u8], k: usize) -> &[u8]
+    ensures { first_word result.now ≡ word_of words.now k }
 {
-    let mut from: usize = 0;
-    let mut left = k;
-    while left > 0 {
-        let past = next_word(words, from);
-        if past == from {
-            return from;
-        }
-        from = past;
-        left -= 1;
+    let mut rest = words;
+    for _ in 0..k {
+        rest = past_bar(rest);
     }
-    from
+    rest
 }
 
 // Word k.
-pub fn put_word(out: &mut [u8], at: usize, words: &[u8], k: usize) -> usize
-    ensures { Puts out.old at (word_of words.now k) out.new result }
+pub fn put_word(out: &mut Writer, words: &[u8], k: usize)
+    ensures { Puts out.old (word_of words.now k) out.new }
 {
-    let mut next = at;
-    let mut i = word_at(words, k);
-    while i < words.len() {
-        let b = words[i];
-        if b == b'|' {
-            return next;
+    for b in words_from(words, k) {
+        if *b == b'|' {
+            return;
         }
-        next = put_byte(out, next, b);
-        i += 1;
+        put_byte(out, *b);
     }
-    next
 }
 
-// The index of a byte in a list, and the list's length where it is not there.
-pub fn index_of(list: &[u8], b: u8) -> usize
-    ensures { result ≡ index_of list.now b }
+// The place of the first such byte in a list, where the list has one.
+pub fn index_of(list: &[u8], b: u8) -> Option<usize>
+    ensures { MatchOption result (index_of list.now b ≡ length list.now) (λ k. (k < length list.now) × (k ≡ index_of list.now b)) }
 {
-    let mut i: usize = 0;
-    while i < list.len() {
-        if list[i] == b {
-            return i;
+    for (i, a) in list.iter().enumerate() {
+        if *a == b {
+            return Some(i);
         }
-        i += 1;
     }
-    i
+    None
 }

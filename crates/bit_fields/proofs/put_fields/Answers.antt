@@ -6,8 +6,8 @@ use Rattle.bit_fields.proofs.put_fields.Goals as goal
 pub returns : goal.returns
 unfolding fields_text
 returns c =
-    c.put_bits-next.ensures ⨾
-    c.put-next.ensures ⨾
-    c.put_bits-next-2.ensures ⨾
-    c.put-next-2.ensures ⨾
-    c.put_bits.ensures
+    c.put_bits.ensures ⨾
+    c.put.ensures ⨾
+    c.put_bits-2.ensures ⨾
+    c.put-2.ensures ⨾
+    c.put_bits-3.ensures

@@ -6,7 +6,7 @@ use Rattle.bit_fields.proofs.put_pattern.Goals as goal
 pub returns : goal.returns
 unfolding pattern_text
 returns c =
-    c.put-next.ensures ⨾
-    c.put_hex-next.ensures ⨾
-    c.put-next-2.ensures ⨾
+    c.put.ensures ⨾
+    c.put_hex.ensures ⨾
+    c.put-2.ensures ⨾
     c.put_fields.ensures

@@ -6,9 +6,9 @@ use Rattle.chart_cells.proofs.put_cell.Goals as goal
 pub returns : goal.returns
 unfolding cell_text
 returns c =
-    c.put_place-next.ensures ⨾
-    c.put-next.ensures ⨾
-    c.put_decimal-next.ensures ⨾
-    c.put-next-2.ensures ⨾
-    c.put_numbers-next.ensures ⨾
-    c.put.ensures
+    c.put_place.ensures ⨾
+    c.put.ensures ⨾
+    c.put_decimal.ensures ⨾
+    c.put-2.ensures ⨾
+    c.put_numbers.ensures ⨾
+    c.put-3.ensures

@@ -9,6 +9,6 @@ use Rattle.chart_cells.proofs.put_numbers.Goals as goal
 pub returns : goal.returns
 unfolding numbers_text
 returns c =
-    c.put_bend-next.ensures ⨾
-    c.put-next.ensures ⨾
+    c.put_bend.ensures ⨾
+    c.put.ensures ⨾
     puts_as (ap hex_of (c.word_of.ensures ∙ ap (to_bits binary32) c.bend.ensures.is)) c.put_hex.ensures

@@ -6,6 +6,6 @@ use Rattle.chart_page.proofs.page.Goals as goal
 pub returns : goal.returns
 unfolding chart_text
 returns c =
-    c.put_head-next.ensures ⨾
-    c.put_cells-next.ensures ⨾
+    c.put_head.ensures ⨾
+    c.put_cells.ensures ⨾
     c.put.ensures

@@ -2,14 +2,10 @@
 use Rattle.curve_lines.specs.Lines.{curve_text}
 use Rattle.curve_lines.proofs.put_curve.Goals as goal
 
-pub returns-in-Found : goal.returns-in-Found
+pub returns-in-Ok : goal.returns-in-Ok
 unfolding curve_text
-returns-in-Found c = rw c.in-Found.is c.put_found.ensures
+returns-in-Ok c = rw c.in-Ok.is c.put_search.ensures
 
-pub returns-in-NoneFound : goal.returns-in-NoneFound
+pub returns-in-Err : goal.returns-in-Err
 unfolding curve_text
-returns-in-NoneFound c = rw c.in-NoneFound.is c.put_none.ensures
-
-pub returns-in-Refused : goal.returns-in-Refused
-unfolding curve_text
-returns-in-Refused c = rw c.in-Refused.is (rw c.refusal_number.ensures at c.put_number.ensures)
+returns-in-Err c = rw c.in-Err.is (rw c.refusal_number.ensures at c.put_number.ensures)

@@ -8,9 +8,9 @@ use Rattle.curve_lines.proofs.put_found.Goals as goal
 pub returns : goal.returns
 unfolding found_text
 returns c =
-    c.put_number-next.ensures ⨾
-    c.put-next.ensures ⨾
+    c.put_number.ensures ⨾
+    c.put.ensures ⨾
     puts_as (ap nine_places c.sustain_end.ensures)
-    c.put_nine_places-next.ensures ⨾
-    c.put-next-2.ensures ⨾
-    c.put_number.ensures
+    c.put_nine_places.ensures ⨾
+    c.put-2.ensures ⨾
+    c.put_number-2.ensures

@@ -5,4 +5,4 @@ use Rattle.curve_lines.proofs.put_none.Goals as goal
 
 pub returns : goal.returns
 unfolding none_text
-returns c = c.put-next.ensures ⨾ c.put_number.ensures
+returns c = c.put.ensures ⨾ c.put_number.ensures

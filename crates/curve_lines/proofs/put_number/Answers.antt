@@ -6,6 +6,6 @@ use Rattle.curve_lines.proofs.put_number.Goals as goal
 pub returns : goal.returns
 unfolding number_line
 returns c =
-    c.put-next.ensures ⨾
-    c.put_decimal-next.ensures ⨾
-    c.put.ensures
+    c.put.ensures ⨾
+    c.put_decimal.ensures ⨾
+    c.put-2.ensures

@@ -1,5 +1,6 @@
 -- `put_escaped` puts `escaped_of`. Assumes nothing.
-use mathlib.Core.Path.{◌≡◌}
+use mathlib.Core.Path.{◌≡◌, refl}
+use native.Mathlib.Omega.{arith}
 use Prim.Native.Nat.{ℕ, ◌≤◌, ◌<◌}
 use borrow.Author.Tests.{lt-ltb, le-ltb}
 use Rattle.words.specs.Words.{word_of, index_of}
@@ -16,8 +17,8 @@ module _ (b k : ℕ) (e : k ≡ index_of marks b) where
   unfolding escaped_of
   as_it_is h = rw (← e) (simp (le-ltb _ _ h))
 
-pub returns-then-k-lt5 : goal.returns-then-k-lt5
-returns-then-k-lt5 c = puts_as (by_its_entity _ _ c.index_of-k.ensures c.if-k-lt5.true) c.put_word.ensures
+pub returns-in-Some : goal.returns-in-Some
+returns-in-Some c = puts_as (by_its_entity _ _ c.in-Some.ensures.1 c.in-Some.ensures.0) c.put_word.ensures
 
-pub returns : goal.returns
-returns c = puts_as (as_it_is _ _ c.index_of-k.ensures c.if-k-lt5.false) c.put_shown.ensures
+pub returns-in-None : goal.returns-in-None
+returns-in-None c = puts_as (as_it_is _ _ refl (rw c.in-None.ensures (omega arith))) c.put_shown.ensures

@@ -1,13 +1,8 @@
--- `put_escaped_all` puts `escaped_all`. The loop's invariant: the bytes from i on are left to put. Assumes nothing.
-use mathlib.Core.Path.{◌≡◌}
-use Prim.Native.Nat.{◌-◌, ◌≤◌}
-use lib.ListN.{length, drop}
+-- `put_escaped_all` puts `escaped_all`. The loop's invariant: the bytes from the index on are left to put. Assumes nothing.
+use lib.ListN.{drop}
 use Rattle.escapes.specs.Escaped.{escaped_all}
 use Rattle.text.proofs.Writing.{Left}
 use Rattle.escapes.proofs.put_escaped_all.Given as goal
 
-abbrev pub invariant-loop-i : goal.invariant-loop-i
-invariant-loop-i l = (l.i ≤ length l.text) × (length l.out ≡ length l.initial.out) × Left l.initial.out l.at (escaped_all l.text) l.out l.next (escaped_all (drop l.i l.text))
-
-abbrev pub decreases-loop-i : goal.decreases-loop-i
-decreases-loop-i l = length l.text - l.i
+abbrev pub invariant-loop-b : goal.invariant-loop-b
+invariant-loop-b l = Left l.initial.out (escaped_all l.text) l.out (escaped_all (drop l.b-index l.text))

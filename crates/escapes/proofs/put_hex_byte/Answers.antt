@@ -12,4 +12,4 @@ unfolding hex_byte_of
 code b u v eu ev = rw (eu, ev)
 
 pub returns : goal.returns
-returns c = puts_as (code _ _ _ c.upper.ensures c.upper-2.ensures) (c.put-first.ensures ⨾ c.put_byte-second.ensures ⨾ c.put_byte.ensures)
+returns c = puts_as (code _ _ _ c.upper.ensures c.upper-2.ensures) (c.put.ensures ⨾ c.put_byte.ensures ⨾ c.put_byte-2.ensures)

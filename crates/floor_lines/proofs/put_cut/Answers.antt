@@ -12,8 +12,8 @@ overflow_sub-b c = mod-le _ _
 pub returns : goal.returns
 unfolding cut_text
 returns c =
-    c.put_head-next.ensures ⨾
-    c.put_cleared_reason-next.ensures ⨾
-    puts_as (cleared_line _ _ (omega arith) _) c.put_line-next.ensures ⨾
-    puts_as (set_reason _ c.args.k (omega arith)) c.put_step_reason-next.ensures ⨾
+    c.put_head.ensures ⨾
+    c.put_cleared_reason.ensures ⨾
+    puts_as (cleared_line _ _ (omega arith) _) c.put_line.ensures ⨾
+    puts_as (set_reason _ c.args.k (omega arith)) c.put_step_reason.ensures ⨾
     c.put_floor.ensures

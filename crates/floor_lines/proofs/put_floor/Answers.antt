@@ -11,8 +11,8 @@ returns c =
     let f = c.floor.ensures in
     let x = c.float_of.ensures in
     let h = c.requires in
-    c.put-next.ensures ⨾
-    (rw (w, f, x) at c.put_pattern-next.ensures) ⨾
-    c.put-next-2.ensures ⨾
-    puts_as (number_is _ h) c.put_floor_number-next.ensures ⨾
-    c.put.ensures
+    c.put.ensures ⨾
+    (rw (w, f, x) at c.put_pattern.ensures) ⨾
+    c.put-2.ensures ⨾
+    puts_as (number_is _ h) c.put_floor_number.ensures ⨾
+    c.put-3.ensures

@@ -6,6 +6,6 @@ use Rattle.floor_lines.proofs.put_head.Goals as goal
 pub returns : goal.returns
 unfolding head_of
 returns c =
-    c.put-next.ensures ⨾
-    c.put_exponent-next.ensures ⨾
-    c.put.ensures
+    c.put.ensures ⨾
+    c.put_exponent.ensures ⨾
+    c.put-2.ensures

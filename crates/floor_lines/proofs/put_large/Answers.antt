@@ -6,5 +6,5 @@ use Rattle.floor_lines.proofs.put_large.Goals as goal
 pub returns : goal.returns
 unfolding large_text
 returns c =
-    c.put_head-next.ensures ⨾
+    c.put_head.ensures ⨾
     c.put_line.ensures

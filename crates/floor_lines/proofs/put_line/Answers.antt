@@ -6,6 +6,6 @@ use Rattle.floor_lines.proofs.put_line.Goals as goal
 pub returns : goal.returns
 unfolding line_of
 returns c =
-    c.put-next.ensures ⨾
-    c.put_pattern-next.ensures ⨾
-    c.put.ensures
+    c.put.ensures ⨾
+    c.put_pattern.ensures ⨾
+    c.put-2.ensures

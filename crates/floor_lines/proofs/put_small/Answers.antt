@@ -6,6 +6,6 @@ use Rattle.floor_lines.proofs.put_small.Goals as goal
 pub returns : goal.returns
 unfolding small_text
 returns c =
-    c.put_head-next.ensures ⨾
-    c.put_small_reason-next.ensures ⨾
+    c.put_head.ensures ⨾
+    c.put_small_reason.ensures ⨾
     c.put_floor.ensures

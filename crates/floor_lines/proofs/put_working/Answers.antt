@@ -4,18 +4,14 @@ use Rattle.floor_lines.specs.Lines.{working_text}
 use borrow.Author.Rules.{rules}
 use Rattle.floor_lines.proofs.put_working.Goals as goal
 
-pub put_line-next-requires : goal.put_line-next-requires
+pub put_line-requires : goal.put_line-requires
 unfolding working_text
-put_line-next-requires c = search rules
+put_line-requires c = search rules
 
 pub put_case-requires : goal.put_case-requires
 unfolding working_text
 put_case-requires c = search rules
 
-pub shape_of-out : goal.shape_of-out
-unfolding working_text
-shape_of-out c = search rules
-
 pub returns : goal.returns
 unfolding working_text
-returns c = c.put_line-next.ensures ⨾ c.put_case.ensures
+returns c = c.put_line.ensures ⨾ c.put_case.ensures

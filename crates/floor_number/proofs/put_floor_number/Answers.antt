@@ -10,4 +10,4 @@ pub returns-then-field-lt-WHOLE : goal.returns-then-field-lt-WHOLE
 returns-then-field-lt-WHOLE c = puts_as (number_cut _ c.if-field-lt-ONE.false c.if-field-lt-WHOLE.true) c.put_cut.ensures
 
 pub returns : goal.returns
-returns c = puts_as (number_large _ c.if-field-lt-WHOLE.false) (puts_none _ _)
+returns c = puts_as (number_large _ c.if-field-lt-WHOLE.false) (puts_none _)

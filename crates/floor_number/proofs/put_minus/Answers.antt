@@ -3,4 +3,4 @@ use Rattle.text.proofs.Writing.{◌⨾◌}
 use Rattle.floor_number.proofs.put_minus.Goals as goal
 
 pub returns : goal.returns
-returns c = c.put-next.ensures ⨾ c.put_decimal.ensures
+returns c = c.put.ensures ⨾ c.put_decimal.ensures

@@ -8,4 +8,4 @@ pub returns-then-k-eq1 : goal.returns-then-k-eq1
 returns-then-k-eq1 c = puts_as (one_cleared _ (eq-eqb _ _ c.if-k-eq1.true)) c.put.ensures
 
 pub returns : goal.returns
-returns c = puts_as (some_cleared _ (ne_eqb _ _ c.if-k-eq1.false)) (c.put-next.ensures ⨾ c.put_decimal-next.ensures ⨾ c.put-2.ensures)
+returns c = puts_as (some_cleared _ (ne_eqb _ _ c.if-k-eq1.false)) (c.put-2.ensures ⨾ c.put_decimal.ensures ⨾ c.put-3.ensures)

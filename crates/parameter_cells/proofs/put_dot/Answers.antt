@@ -8,6 +8,6 @@ pub returns-then-is_drawn : goal.returns-then-is_drawn
 unfolding dot_text
 returns-then-is_drawn c = simp (sym c.is_drawn.ensures ∙ c.if-is_drawn.true) c.put.ensures
 
-pub returns : goal.returns
+pub returns-else-is_drawn : goal.returns-else-is_drawn
 unfolding dot_text
-returns c = simp (sym c.is_drawn.ensures ∙ c.if-is_drawn.false) (puts_none _ _)
+returns-else-is_drawn c = simp (sym c.is_drawn.ensures ∙ c.if-is_drawn.false) (puts_none _)

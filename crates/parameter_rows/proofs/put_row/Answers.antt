@@ -6,7 +6,7 @@ use Rattle.parameter_rows.proofs.put_row.Goals as goal
 pub returns : goal.returns
 unfolding row_text
 returns c =
-    c.put_place-next.ensures ⨾
-    c.put_rule-next.ensures ⨾
-    c.put_dot-next.ensures ⨾
+    c.put_place.ensures ⨾
+    c.put_rule.ensures ⨾
+    c.put_dot.ensures ⨾
     c.put_cells.ensures

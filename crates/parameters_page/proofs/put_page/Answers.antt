@@ -6,7 +6,7 @@ use Rattle.parameters_page.proofs.put_page.Goals as goal
 pub returns : goal.returns
 unfolding parameters_of
 returns c =
-    c.put_style-next.ensures ⨾
-    c.put_head-next.ensures ⨾
-    c.put_rows-next.ensures ⨾
+    c.put_style.ensures ⨾
+    c.put_head.ensures ⨾
+    c.put_rows.ensures ⨾
     c.put_foot.ensures

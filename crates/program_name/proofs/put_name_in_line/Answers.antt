@@ -1,13 +1,12 @@
--- `put_name_in_line` puts `name_in_line`: the bytes up to where the name ends, or the word for none. Assumes nothing.
-use mathlib.Core.Path.{sym, ◌∙◌}
+-- `put_name_in_line` puts `name_in_line`: the name, or the word for none. Assumes nothing.
 use borrow.Author.Tests.{eq-eqb, ne_eqb}
 use Rattle.program_name.specs.ProgramName.{name_in_line}
 use Rattle.program_name.proofs.put_name_in_line.Goals as goal
 
-pub returns-then-end-eq-NAME : goal.returns-then-end-eq-NAME
+pub returns-in-Some : goal.returns-in-Some
 unfolding name_in_line
-returns-then-end-eq-NAME c = simp (eq-eqb _ _ (sym c.name_end-end.ensures.0 ∙ c.if-end-eq-NAME.true)) c.put.ensures
+returns-in-Some c = simp (ne_eqb _ _ c.in-Some.ensures.0) (rw c.in-Some.ensures.1 at c.put_shown_all.ensures)
 
-pub returns : goal.returns
+pub returns-in-None : goal.returns-in-None
 unfolding name_in_line
-returns c = simp (ne_eqb _ _ (λ q. c.if-end-eq-NAME.false (c.name_end-end.ensures.0 ∙ q))) (rw c.name_end-end.ensures.0 at c.put_shown_all.ensures)
+returns-in-None c = simp (eq-eqb _ _ c.in-None.ensures) c.put.ensures

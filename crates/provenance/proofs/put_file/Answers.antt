@@ -6,6 +6,6 @@ use Rattle.provenance.proofs.put_file.Goals as goal
 pub returns : goal.returns
 unfolding file_text
 returns c =
-    c.put_file_name-next.ensures ⨾
-    c.put-next.ensures ⨾
+    c.put_file_name.ensures ⨾
+    c.put.ensures ⨾
     rw c.crc32.ensures at c.put_hex.ensures

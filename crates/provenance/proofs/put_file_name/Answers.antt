@@ -10,4 +10,4 @@ returns-then-file-eq0 c = simp (eq-eqb _ _ c.if-file-eq0.true) c.put.ensures
 
 pub returns : goal.returns
 unfolding file_name
-returns c = simp (ne_eqb _ _ c.if-file-eq0.false) (c.put-next.ensures ⨾ c.put_escaped_all.ensures)
+returns c = simp (ne_eqb _ _ c.if-file-eq0.false) (c.put-2.ensures ⨾ c.put_escaped_all.ensures)

@@ -6,8 +6,8 @@ use Rattle.rows.proofs.put_caption.Goals as goal
 
 pub returns-then-caption-eq-NO_CAPTION : goal.returns-then-caption-eq-NO_CAPTION
 unfolding caption_text
-returns-then-caption-eq-NO_CAPTION c = simp (eq-eqb _ _ c.if-caption-eq-NO_CAPTION.true) (puts_none _ _)
+returns-then-caption-eq-NO_CAPTION c = simp (eq-eqb _ _ c.if-caption-eq-NO_CAPTION.true) (puts_none _)
 
 pub returns : goal.returns
 unfolding caption_text
-returns c = simp (ne_eqb _ _ c.if-caption-eq-NO_CAPTION.false) (c.put-next.ensures ⨾ c.put_segment.ensures)
+returns c = simp (ne_eqb _ _ c.if-caption-eq-NO_CAPTION.false) (c.put.ensures ⨾ c.put_segment.ensures)

@@ -6,7 +6,7 @@ use Rattle.rows.proofs.put_decimals.Goals as goal
 pub returns : goal.returns
 unfolding decimals_text
 returns c =
-    c.put_nine_places-next.ensures ⨾
-    c.put-next.ensures ⨾
-    c.put_nine_places-next-2.ensures ⨾
-    c.put.ensures
+    c.put_nine_places.ensures ⨾
+    c.put.ensures ⨾
+    c.put_nine_places-2.ensures ⨾
+    c.put-2.ensures

@@ -6,9 +6,9 @@ use Rattle.rows.proofs.put_row.Goals as goal
 pub returns : goal.returns
 unfolding row_text
 returns c =
-    c.put_decimals-next.ensures ⨾
-    (rw c.word_of.ensures at c.put_hex-next.ensures) ⨾
-    c.put-next.ensures ⨾
-    (rw c.word_of-2.ensures at c.put_hex-next-2.ensures) ⨾
-    c.put_caption-next.ensures ⨾
-    c.put.ensures
+    c.put_decimals.ensures ⨾
+    (rw c.word_of.ensures at c.put_hex.ensures) ⨾
+    c.put.ensures ⨾
+    (rw c.word_of-2.ensures at c.put_hex-2.ensures) ⨾
+    c.put_caption.ensures ⨾
+    c.put-2.ensures

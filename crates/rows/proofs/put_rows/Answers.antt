@@ -9,14 +9,10 @@ pub put_samples-requires : goal.put_samples-requires
 unfolding rows_text
 put_samples-requires c = search rules
 
-pub shape_of-out-then-heights-le-MAX_ROWS : goal.shape_of-out-then-heights-le-MAX_ROWS
-unfolding rows_text
-shape_of-out-then-heights-le-MAX_ROWS c = search rules
-
 pub returns-then-heights-le-MAX_ROWS : goal.returns-then-heights-le-MAX_ROWS
 unfolding rows_text
 returns-then-heights-le-MAX_ROWS c = simp (le-leb _ _ c.if-heights-le-MAX_ROWS.true) c.put_samples.ensures
 
-pub returns : goal.returns
+pub returns-else-heights-le-MAX_ROWS : goal.returns-else-heights-le-MAX_ROWS
 unfolding rows_text
-returns c = simp (lt-leb _ _ c.if-heights-le-MAX_ROWS.false) (puts_none _ _)
+returns-else-heights-le-MAX_ROWS c = simp (lt-leb _ _ c.if-heights-le-MAX_ROWS.false) (puts_none _)

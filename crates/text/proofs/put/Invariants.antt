@@ -1,12 +1,7 @@
--- `put` puts its text. The loop's invariant: the first i bytes of the text are put. Assumes nothing.
-use mathlib.Core.Path.{◌≡◌}
-use Prim.Native.Nat.{◌-◌, ◌≤◌}
-use lib.ListN.{length, take}
+-- `put` puts its text. The loop's invariant: the first bytes of the text are put. Assumes nothing.
+use lib.ListN.{take}
 use Rattle.text.specs.Text.{Puts}
 use Rattle.text.proofs.put.Given as goal
 
-abbrev pub invariant-loop-i : goal.invariant-loop-i
-invariant-loop-i l = (l.i ≤ length l.text) × (length l.out ≡ length l.initial.out) × Puts l.initial.out l.at (take l.i l.text) l.out l.next
-
-abbrev pub decreases-loop-i : goal.decreases-loop-i
-decreases-loop-i l = length l.text - l.i
+abbrev pub invariant-loop-b : goal.invariant-loop-b
+invariant-loop-b l = Puts l.initial.out (take l.b-index l.text) l.out

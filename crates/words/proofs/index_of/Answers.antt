@@ -1,12 +1,14 @@
-use borrow.Author.Rules.{rules}
+use mathlib.Core.Path.{sym, ◌∙◌}
+use native.Mathlib.Omega.{arith}
+use native.Mathlib.Nat.{le_antisymm}
 use Rattle.words.proofs.Words.{place_here, place_further, place_none}
 use Rattle.words.proofs.index_of.Goals as goal
 
-pub returns-then-list-i : goal.returns-then-list-i
-returns-then-list-i c = place_here _ _ _ c.loop-i.invariant.1 c.loop-i-test.true c.if-list-i.true
+pub returns-then-a-b : goal.returns-then-a-b
+returns-then-a-b c = (c.loop-i-test.true, place_here _ _ _ c.loop-i.invariant c.loop-i-test.true c.if-a-b.true)
 
 pub loop-i-preserved : goal.loop-i-preserved
-loop-i-preserved c = (search rules, place_further _ _ _ c.loop-i.invariant.1 c.loop-i-test.true c.if-list-i.false)
+loop-i-preserved c = place_further _ _ _ c.loop-i.invariant c.loop-i-test.true c.if-a-b.false
 
 pub returns : goal.returns
-returns c = place_none _ _ _ c.loop-i.invariant.1 c.loop-i-test.false
+returns c = sym (place_none _ _ _ c.loop-i.invariant c.loop-i-test.false) ∙ le_antisymm (omega arith) c.loop-i-test.false

@@ -1,5 +1,0 @@
--- `put_shape` puts `shape_note`: the word that it asks for. Assumes nothing.
-use Rattle.labels.proofs.put_shape.Goals as goal
-
-pub returns : goal.returns
-returns c = c.put_word.ensures
