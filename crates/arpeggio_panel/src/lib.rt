@@ -9,24 +9,25 @@ ghost use Rattle.arpeggio_panel.specs.Arpeggio.{arpeggio_text};
 use code_bytes::{GATE_TIME, byte_at};
 use panel_frame::{put_end, put_frame, put_place, put_title};
 use panel_gates::put_gate;
+use text::Writer;
 
 // What is drawn, from the byte of both blocks.
-fn put_gates(out: &mut [u8], at: usize, older: &[u8], block: &[u8]) -> usize
-    ensures { Puts out.old at (gate_text (byte_at older.now gates_byte) (byte_at block.now gates_byte)) out.new result }
+fn put_gates(out: &mut Writer, older: &[u8], block: &[u8])
+    ensures { Puts out.old (gate_text (byte_at older.now gates_byte) (byte_at block.now gates_byte)) out.new }
 {
     let was = byte_at(older, GATE_TIME);
     let time = byte_at(block, GATE_TIME);
-    put_gate(out, at, was, time)
+    put_gate(out, was, time);
 }
 
 // The panel of the gates, from the byte of both blocks.
-pub fn put_arpeggio(out: &mut [u8], at: usize, older: &[u8], block: &[u8]) -> usize
-    ensures { Puts out.old at (arpeggio_text (byte_at older.now gates_byte) (byte_at block.now gates_byte)) out.new result }
+pub fn put_arpeggio(out: &mut Writer, older: &[u8], block: &[u8])
+    ensures { Puts out.old (arpeggio_text (byte_at older.now gates_byte) (byte_at block.now gates_byte)) out.new }
 {
-    let mut next = put_place(out, at, 14);
-    next = put_title(out, next, 14);
-    next = put_gates(out, next, older, block);
-    next = put_frame(out, next);
-    next = dial_lines::put_dial(out, next, b"Gate time", older, block, GATE_TIME);
-    put_end(out, next)
+    put_place(out, 14);
+    put_title(out, 14);
+    put_gates(out, older, block);
+    put_frame(out);
+    dial_lines::put_dial(out, b"Gate time", older, block, GATE_TIME);
+    put_end(out);
 }

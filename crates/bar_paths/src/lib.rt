@@ -7,35 +7,29 @@ ghost use Rattle.bar_paths.specs.Paths.{corner_text, bar_text, some_bars};
 
 use fixed_point::nearest;
 use gates::{GATES_DRAWN, Gate, Gates};
-use lists::at_most;
 use numerals::put_decimal;
-use text::put;
+use text::{Writer, put};
 
 // Where a bar starts or ends, after the way there.
-fn put_corner(out: &mut [u8], at: usize, way: &[u8], place: f32) -> usize
-    ensures { Puts out.old at (corner_text way.now place) out.new result }
+fn put_corner(out: &mut Writer, way: &[u8], place: f32)
+    ensures { Puts out.old (corner_text way.now place) out.new }
 {
-    let next = put(out, at, way);
-    put_decimal(out, next, nearest(place / 4.0, 5000))
+    put(out, way);
+    put_decimal(out, nearest(place / 4.0, 5000));
 }
 
-fn put_bar(out: &mut [u8], at: usize, start: &[u8], up: &[u8], bar: Gate) -> usize
-    ensures { Puts out.old at (bar_text start.now up.now bar) out.new result }
+fn put_bar(out: &mut Writer, start: &[u8], up: &[u8], bar: Gate)
+    ensures { Puts out.old (bar_text start.now up.now bar) out.new }
 {
-    let mut next = put_corner(out, at, start, bar.start);
-    next = put_corner(out, next, up, bar.end);
-    put(out, next, b"V0Z'/>")
+    put_corner(out, start, bar.start);
+    put_corner(out, up, bar.end);
+    put(out, b"V0Z'/>");
 }
 
-pub fn put_each_bar(out: &mut [u8], at: usize, start: &[u8], up: &[u8], bars: Gates) -> usize
-    ensures { Puts out.old at (some_bars start.now up.now bars (min bars.count 4)) out.new result }
+pub fn put_each_bar(out: &mut Writer, start: &[u8], up: &[u8], bars: Gates)
+    ensures { Puts out.old (some_bars start.now up.now bars (min bars.count 4)) out.new }
 {
-    let count = at_most(bars.count, GATES_DRAWN);
-    let mut next = at;
-    let mut i: usize = 0;
-    while i < count {
-        next = put_bar(out, next, start, up, bars.places[i]);
-        i += 1;
+    for i in 0..bars.count.min(GATES_DRAWN) {
+        put_bar(out, start, up, bars.places[i]);
     }
-    next
 }

@@ -1,6 +1,6 @@
 -- WHAT DIFFERS BETWEEN TWO PROGRAMS, AS TEXT: docs/SPECIFICATION.md, "What differs". A reading gives the byte of each number: a is the old, b the new. The curves of sampled
 -- shapes are held against each other at n turns. Definitions only.
-use Rattle.std.specs.Prelude.{cond, List, [], ◌∷◌, ◌++◌, ℕ, zero, suc, ◌+◌, eqb, length, Float}
+use Rattle.std.specs.Prelude.{cond, List, [], ◌∷◌, ◌++◌, ℕ, zero, suc, ◌+◌, eqb, length, Float, Option, Some, None}
 use Rattle.text.specs.Text.{ascii, texts_below}
 use Rattle.numerals.specs.Spelled.{decimal_of}
 use Rattle.generator.specs.declared.Shape.{Shape}
@@ -9,8 +9,6 @@ use Rattle.settings.specs.declared.SampledTurns.{SampledTurns}
 use Rattle.turns.specs.Turns.{turns_read, turns_text, turned_of}
 use Rattle.strip.specs.Strip.{sample_position}
 use Rattle.codes.specs.declared.Code.{Code}
-use Rattle.codes.specs.declared.CodeRead.{CodeRead}
-use Rattle.codes.specs.declared.CodeRead.TheVariants.{Known, Above}
 use Rattle.codes.specs.Codes.{code_number, code_of}
 use Rattle.code_bytes.specs.Bytes.{bytes_of, byte_at, gates_byte, block_length}
 use Rattle.code_shapes.specs.Shapes.{shape_of}
@@ -41,9 +39,9 @@ unfoldable pub generator_text : SampledTurns → Code → (ℕ → ℕ) → (ℕ
 generator_text n c a b =
     title_of (code_number c) ++ cond (same_bytes (bytes_of c) a b) (ascii "same\n") (largest_text (largest_of (curve_of (turned_of n (shape_of c a))) (curve_of (turned_of n (shape_of c b))) compared_samples) ++ changes_text (bytes_of c) a b)
 
-unfoldable pub code_text : SampledTurns → CodeRead → (ℕ → ℕ) → (ℕ → ℕ) → List ℕ
-code_text n (Known c) a b = generator_text n c a b
-code_text n Above a b = []
+unfoldable pub code_text : SampledTurns → Option Code → (ℕ → ℕ) → (ℕ → ℕ) → List ℕ
+code_text n (Some c) a b = generator_text n c a b
+code_text n None a b = []
 
 -- The generators of the first k codes.
 abbrev pub codes_text : SampledTurns → ℕ → (ℕ → ℕ) → (ℕ → ℕ) → List ℕ
@@ -54,9 +52,9 @@ unfoldable pub gate_text : (ℕ → ℕ) → (ℕ → ℕ) → List ℕ
 gate_text a b = title_of 14 ++ cond (same_bytes (gates_byte ∷ []) a b) (ascii "same\n") (ascii "different\n" ++ changes_text (gates_byte ∷ []) a b)
 
 -- ---- how many differ: 1 for each that does
-unfoldable pub code_count : CodeRead → (ℕ → ℕ) → (ℕ → ℕ) → ℕ
-code_count (Known c) a b = cond (same_bytes (bytes_of c) a b) 0 1
-code_count Above a b = 0
+unfoldable pub code_count : Option Code → (ℕ → ℕ) → (ℕ → ℕ) → ℕ
+code_count (Some c) a b = cond (same_bytes (bytes_of c) a b) 0 1
+code_count None a b = 0
 
 unfoldable pub codes_count : ℕ → (ℕ → ℕ) → (ℕ → ℕ) → ℕ
 codes_count zero a b = 0

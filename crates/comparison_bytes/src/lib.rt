@@ -7,62 +7,51 @@ ghost use Rattle.code_bytes.specs.Bytes.{bytes_of, byte_at};
 ghost use Rattle.comparison_bytes.specs.Changes.{same_bytes, change_text, changes_text};
 
 use byte_names::put_byte_name;
-use code_bytes::bytes_of;
+use code_bytes::{byte_at, bytes_of};
 use codes::Code;
 use numerals::put_decimal;
-use text::put;
+use text::{Writer, put};
 
 // ---- bytes
-// A byte of a block, and 0 past its end.
-fn byte_at(block: &[u8], n: u8) -> u8
-    ensures { result ≡ byte_at block.now n }
-{
-    code_bytes::byte_at(block, n as usize)
-}
+// Two slices, and not crate compared_blocks' `Blocks`: what is promised here holds of blocks of any length.
 
 // Whether two blocks have the same bytes of those numbers.
 pub fn same_bytes(old: &[u8], new: &[u8], bytes: &[u8]) -> bool
     ensures { result ≡ same_bytes bytes.now (byte_at old.now) (byte_at new.now) }
 {
-    let mut i: usize = 0;
-    while i < bytes.len() {
-        let n = bytes[i];
-        if byte_at(old, n) != byte_at(new, n) {
-            return false;
-        }
-        i += 1;
-    }
-    true
+    bytes
+        .iter()
+        .all(|n| byte_at(old, *n as usize) == byte_at(new, *n as usize))
 }
 
 // A line for a byte that differs, and none for one that does not.
-fn put_change(out: &mut [u8], at: usize, n: u8, a: u8, b: u8) -> usize
-    ensures { Puts out.old at (change_text n a b) out.new result }
+fn put_change(out: &mut Writer, n: u8, a: u8, b: u8)
+    ensures { Puts out.old (change_text n a b) out.new }
 {
     if a == b {
-        return at;
+        return;
     }
-    let mut next = put(out, at, b"                            ");
-    next = put_byte_name(out, next, n);
-    next = put(out, next, b" ");
-    next = put_decimal(out, next, a as u64);
-    next = put(out, next, b" -> ");
-    next = put_decimal(out, next, b as u64);
-    put(out, next, b"\n")
+    put(out, b"                            ");
+    put_byte_name(out, n);
+    put(out, b" ");
+    put_decimal(out, a as u64);
+    put(out, b" -> ");
+    put_decimal(out, b as u64);
+    put(out, b"\n");
 }
 
 // The lines of the bytes of those numbers.
-pub fn put_changes(out: &mut [u8], at: usize, old: &[u8], new: &[u8], bytes: &[u8]) -> usize
-    ensures { Puts out.old at (changes_text bytes.now (byte_at old.now) (byte_at new.now)) out.new result }
+pub fn put_changes(out: &mut Writer, old: &[u8], new: &[u8], bytes: &[u8])
+    ensures { Puts out.old (changes_text bytes.now (byte_at old.now) (byte_at new.now)) out.new }
 {
-    let mut next = at;
-    let mut i: usize = 0;
-    while i < bytes.len() {
-        let n = bytes[i];
-        next = put_change(out, next, n, byte_at(old, n), byte_at(new, n));
-        i += 1;
+    for n in bytes {
+        put_change(
+            out,
+            *n,
+            byte_at(old, *n as usize),
+            byte_at(new, *n as usize),
+        );
     }
-    next
 }
 
 // ---- the bytes that a generator reads
@@ -76,10 +65,10 @@ pub fn same(old: &[u8], new: &[u8], code: Code) -> bool
 }
 
 // The lines of those that differ.
-pub fn put_code_changes(out: &mut [u8], at: usize, old: &[u8], new: &[u8], code: Code) -> usize
-    ensures { Puts out.old at (changes_text (bytes_of code) (byte_at old.now) (byte_at new.now)) out.new result }
+pub fn put_code_changes(out: &mut Writer, old: &[u8], new: &[u8], code: Code)
+    ensures { Puts out.old (changes_text (bytes_of code) (byte_at old.now) (byte_at new.now)) out.new }
 {
     let read = bytes_of(code);
     let numbers = read.at;
-    put_changes(out, at, old, new, &numbers[..read.count])
+    put_changes(out, old, new, &numbers[..read.count]);
 }

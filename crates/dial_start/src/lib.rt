@@ -5,51 +5,52 @@ ghost use Rattle.text.specs.Text.{Puts};
 ghost use Rattle.dial_start.specs.Start.{was_text, note_start, name_start, dial_start, dial_end};
 
 use numerals::put_decimal;
-use text::put;
+use text::{Writer, put};
 
 // ---- the parts of a line
-pub fn put_was(out: &mut [u8], at: usize, was: u8, b: u8) -> usize
-    ensures { Puts out.old at (was_text was b) out.new result }
+pub fn put_was(out: &mut Writer, was: u8, b: u8)
+    ensures { Puts out.old (was_text was b) out.new }
+{
+    if was != b {
+        put(out, b"<tspan class='w' dx='50'>was ");
+        put_decimal(out, was as u64);
+        put(out, b"</tspan>");
+    }
+}
+
+#[tactic(auto, unfolding(crate::specs::Start::note_start))]
+fn start_note(out: &mut Writer, was: u8, b: u8)
+    ensures { Puts out.old (note_start was b) out.new }
 {
     if was == b {
-        return at;
+        put(out, b"<tspan x='2750'>")
+    } else {
+        put(out, b"<tspan class='s' x='3380'>")
     }
-    let mut next = put(out, at, b"<tspan class='w' dx='50'>was ");
-    next = put_decimal(out, next, was as u64);
-    put(out, next, b"</tspan>")
 }
 
-fn start_note(out: &mut [u8], at: usize, was: u8, b: u8) -> usize
-    ensures { Puts out.old at (note_start was b) out.new result }
+fn start_name(out: &mut Writer, y: u64, name: &[u8])
+    ensures { Puts out.old (name_start y name.now) out.new }
 {
-    if was == b {
-        return put(out, at, b"<tspan x='2750'>");
-    }
-    put(out, at, b"<tspan class='s' x='3380'>")
+    put(out, b"<text class='d' y='");
+    put_decimal(out, y);
+    put(out, b"'>");
+    put(out, name);
+    put(out, b"<tspan class='b' x='2000'>");
 }
 
-fn start_name(out: &mut [u8], at: usize, y: u64, name: &[u8]) -> usize
-    ensures { Puts out.old at (name_start y name.now) out.new result }
+pub fn start(out: &mut Writer, y: u64, name: &[u8], was: u8, b: u8)
+    ensures { Puts out.old (dial_start y name.now was b) out.new }
 {
-    let mut next = put(out, at, b"<text class='d' y='");
-    next = put_decimal(out, next, y);
-    next = put(out, next, b"'>");
-    next = put(out, next, name);
-    put(out, next, b"<tspan class='b' x='2000'>")
+    start_name(out, y, name);
+    put_decimal(out, b as u64);
+    put(out, b"</tspan>");
+    put_was(out, was, b);
+    start_note(out, was, b);
 }
 
-pub fn start(out: &mut [u8], at: usize, y: u64, name: &[u8], was: u8, b: u8) -> usize
-    ensures { Puts out.old at (dial_start y name.now was b) out.new result }
+pub fn end(out: &mut Writer)
+    ensures { Puts out.old dial_end out.new }
 {
-    let mut next = start_name(out, at, y, name);
-    next = put_decimal(out, next, b as u64);
-    next = put(out, next, b"</tspan>");
-    next = put_was(out, next, was, b);
-    start_note(out, next, was, b)
-}
-
-pub fn end(out: &mut [u8], at: usize) -> usize
-    ensures { Puts out.old at dial_end out.new result }
-{
-    put(out, at, b"</tspan></text>")
+    put(out, b"</tspan></text>");
 }

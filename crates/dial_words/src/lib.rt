@@ -1,5 +1,6 @@
 // The lines that say what to dial in whose note is a word: what the byte stands for. `n` is the byte's number in both
 // blocks, as in `dial_lines`.
+// Each line has a function of its own: one over the writer of the note would take eight parameters, and no line would be shorter by it.
 #![tactic(auto)]
 
 ghost use Rattle.text.specs.Text.{Puts};
@@ -7,64 +8,47 @@ ghost use Rattle.code_bytes.specs.Bytes.{byte_at};
 ghost use Rattle.dial_words.specs.Words.{switch_dial, shape_dial, poles_dial, source_dial, depth_dial};
 
 use code_bytes::byte_at;
-use dial_start::{end, start};
+use dial_lines::start_line;
+use dial_start::end;
+use text::Writer;
 
-pub fn put_switch(
-    out: &mut [u8],
-    at: usize,
-    y: u64,
-    name: &[u8],
-    older: &[u8],
-    block: &[u8],
-    n: usize,
-) -> usize
-    ensures { Puts out.old at (switch_dial y name.now (byte_at older.now n) (byte_at block.now n)) out.new result }
+pub fn put_switch(out: &mut Writer, y: u64, name: &[u8], older: &[u8], block: &[u8], n: usize)
+    ensures { Puts out.old (switch_dial y name.now (byte_at older.now n) (byte_at block.now n)) out.new }
 {
-    let b = byte_at(block, n);
-    let mut next = start(out, at, y, name, byte_at(older, n), b);
-    next = labels::put_switch(out, next, b);
-    end(out, next)
+    let b = start_line(out, y, name, older, block, n);
+    labels::put_switch(out, b);
+    end(out);
 }
 
-pub fn put_shape(out: &mut [u8], at: usize, older: &[u8], block: &[u8], n: usize) -> usize
-    ensures { Puts out.old at (shape_dial (byte_at older.now n) (byte_at block.now n)) out.new result }
+pub fn put_shape(out: &mut Writer, older: &[u8], block: &[u8], n: usize)
+    ensures { Puts out.old (shape_dial (byte_at older.now n) (byte_at block.now n)) out.new }
 {
-    let b = byte_at(block, n);
-    let mut next = start(out, at, 1300, b"Shape", byte_at(older, n), b);
-    next = labels::put_shape(out, next, b);
-    end(out, next)
+    let b = start_line(out, 1300, b"Shape", older, block, n);
+    labels::put_shape(out, b);
+    end(out);
 }
 
-pub fn put_poles(out: &mut [u8], at: usize, older: &[u8], block: &[u8], n: usize) -> usize
-    ensures { Puts out.old at (poles_dial (byte_at older.now n) (byte_at block.now n)) out.new result }
+pub fn put_poles(out: &mut Writer, older: &[u8], block: &[u8], n: usize)
+    ensures { Puts out.old (poles_dial (byte_at older.now n) (byte_at block.now n)) out.new }
 {
-    let b = byte_at(block, n);
-    let mut next = start(out, at, 1620, b"Pole mode", byte_at(older, n), b);
-    next = labels::put_poles(out, next, b);
-    end(out, next)
+    let b = start_line(out, 1620, b"Pole mode", older, block, n);
+    labels::put_poles(out, b);
+    end(out);
 }
 
-pub fn put_source(out: &mut [u8], at: usize, older: &[u8], block: &[u8], n: usize) -> usize
-    ensures { Puts out.old at (source_dial (byte_at older.now n) (byte_at block.now n)) out.new result }
+pub fn put_source(out: &mut Writer, older: &[u8], block: &[u8], n: usize)
+    ensures { Puts out.old (source_dial (byte_at older.now n) (byte_at block.now n)) out.new }
 {
-    let b = byte_at(block, n);
-    let mut next = start(out, at, 1940, b"PWM source", byte_at(older, n), b);
-    next = labels::put_source(out, next, b);
-    end(out, next)
+    let b = start_line(out, 1940, b"PWM source", older, block, n);
+    labels::put_source(out, b);
+    end(out);
 }
 
 // The note of the depth depends on the byte of the source, number k.
-pub fn put_depth(out: &mut [u8], at: usize, older: &[u8], block: &[u8], n: usize, k: usize) -> usize
-    ensures { Puts out.old at (depth_dial (byte_at older.now n) (byte_at block.now n) (byte_at block.now k)) out.new result }
+pub fn put_depth(out: &mut Writer, older: &[u8], block: &[u8], n: usize, k: usize)
+    ensures { Puts out.old (depth_dial (byte_at older.now n) (byte_at block.now n) (byte_at block.now k)) out.new }
 {
-    let mut next = start(
-        out,
-        at,
-        2260,
-        b"PWM depth",
-        byte_at(older, n),
-        byte_at(block, n),
-    );
-    next = labels::put_depth(out, next, byte_at(block, k));
-    end(out, next)
+    start_line(out, 2260, b"PWM depth", older, block, n);
+    labels::put_depth(out, byte_at(block, k));
+    end(out);
 }

@@ -10,28 +10,27 @@ use code_bytes::{NOISE_LEVEL, OSCILLATOR_TWO_LEVEL, envelope_first, fade_byte, l
 use codes::{Code, OscillatorId};
 use dial_lines::put_dial;
 use modulator_dials::{envelope_dials, lfo_dials, lfo_other_dials};
-use text::put;
+use text::{Writer, put};
 use tone_dials::{low_pass_dials, oscillator_dials};
 
 // The lines of a code.
-pub fn put_dials(out: &mut [u8], at: usize, older: &[u8], block: &[u8], code: Code) -> usize
-    ensures { Puts out.old at (dials_of code (byte_at older.now) (byte_at block.now)) out.new result }
+pub fn put_dials(out: &mut Writer, older: &[u8], block: &[u8], code: Code)
+    ensures { Puts out.old (dials_of code (byte_at older.now) (byte_at block.now)) out.new }
 {
     match code {
-        Code::Envelope(id) => envelope_dials(out, at, older, block, envelope_first(id)),
-        Code::Lfo(id) => lfo_dials(out, at, older, block, lfo_first(id)),
-        Code::LfoUnipolar(id) => lfo_other_dials(out, at, older, block, lfo_first(id)),
-        Code::Fade(id) => put_dial(out, at, b"Fade time", older, block, fade_byte(id)),
-        Code::LowPass => low_pass_dials(out, at, older, block),
+        Code::Envelope(id) => envelope_dials(out, older, block, envelope_first(id)),
+        Code::Lfo(id) => lfo_dials(out, older, block, lfo_first(id)),
+        Code::LfoUnipolar(id) => lfo_other_dials(out, older, block, lfo_first(id)),
+        Code::Fade(id) => put_dial(out, b"Fade time", older, block, fade_byte(id)),
+        Code::LowPass => low_pass_dials(out, older, block),
         Code::HighPass => put(
             out,
-            at,
             b"<text class='d' y='1300'>6 dB an octave, fixed</text>",
         ),
         Code::Oscillator(id) => match id {
-            OscillatorId::One => oscillator_dials(out, at, older, block),
-            OscillatorId::Two => put_dial(out, at, b"Level", older, block, OSCILLATOR_TWO_LEVEL),
+            OscillatorId::One => oscillator_dials(out, older, block),
+            OscillatorId::Two => put_dial(out, b"Level", older, block, OSCILLATOR_TWO_LEVEL),
         },
-        Code::Noise => put_dial(out, at, b"Level", older, block, NOISE_LEVEL),
+        Code::Noise => put_dial(out, b"Level", older, block, NOISE_LEVEL),
     }
 }

@@ -8,50 +8,47 @@ ghost use Rattle.mark_rules.specs.Rules.{kind_text, rule_text, label_text, mark_
 use fixed_point::nearest;
 use marks::{Mark, MarkKind, kind_number};
 use numerals::put_decimal;
-use text::put;
+use text::{Writer, put};
 use words::put_word;
 
-fn put_kind(out: &mut [u8], at: usize, kind: MarkKind) -> usize
-    ensures { Puts out.old at (kind_text kind) out.new result }
+fn put_kind(out: &mut Writer, kind: MarkKind)
+    ensures { Puts out.old (kind_text kind) out.new }
 {
-    let k = kind_number(kind);
     put_word(
         out,
-        at,
         b" dx='50'>A</text>| dx='50'>D</text>| dx='50'>S</text>| dx='50'>R</text>| class='m'>corner</text>| class='m'>cycle</text>| class='m'>tap</text>| class='m'>width</text>| class='m'>sweep</text>",
-        k as usize,
+        kind_number(kind) as usize,
     )
 }
 
-fn put_rule(out: &mut [u8], at: usize, row: usize, across: u64) -> usize
+fn put_rule(out: &mut Writer, row: usize, across: u64)
     requires { row < 8 }
-    ensures { Puts out.old at (rule_text row across) out.new result }
+    ensures { Puts out.old (rule_text row across) out.new }
 {
-    let mut next = put(out, at, b"<path class='v' d='M");
-    next = put_decimal(out, next, across);
-    next = put(out, next, b"-2500V");
-    next = put_decimal(out, next, 40 + 230 * row as u64);
-    put(out, next, b"'/>")
+    put(out, b"<path class='v' d='M");
+    put_decimal(out, across);
+    put(out, b"-2500V");
+    put_decimal(out, 40 + 230 * row as u64);
+    put(out, b"'/>");
 }
 
-fn put_label(out: &mut [u8], at: usize, row: usize, across: u64, kind: MarkKind) -> usize
+fn put_label(out: &mut Writer, row: usize, across: u64, kind: MarkKind)
     requires { row < 8 }
-    ensures { Puts out.old at (label_text row across kind) out.new result }
+    ensures { Puts out.old (label_text row across kind) out.new }
 {
-    let mut next = put(out, at, b"<text x='");
-    next = put_decimal(out, next, across);
-    next = put(out, next, b"' y='");
-    next = put_decimal(out, next, 220 + 230 * row as u64);
-    next = put(out, next, b"'");
-    put_kind(out, next, kind)
+    put(out, b"<text x='");
+    put_decimal(out, across);
+    put(out, b"' y='");
+    put_decimal(out, 220 + 230 * row as u64);
+    put(out, b"'");
+    put_kind(out, kind);
 }
 
-pub fn put_mark(out: &mut [u8], at: usize, row: usize, mark: Mark) -> usize
+pub fn put_mark(out: &mut Writer, row: usize, mark: Mark)
     requires { row < 8 }
-    ensures { Puts out.old at (mark_text row mark) out.new result }
+    ensures { Puts out.old (mark_text row mark) out.new }
 {
     let across = nearest(mark.at, 5000);
-    let kind = mark.kind;
-    let next = put_rule(out, at, row, across);
-    put_label(out, next, row, across, kind)
+    put_rule(out, row, across);
+    put_label(out, row, across, mark.kind);
 }

@@ -13,19 +13,19 @@ use code_bytes::{
 };
 use dial_lines::{put_curved, put_plain};
 use dial_words::{put_shape, put_switch};
+use text::Writer;
 
 // The places of an LFO's bytes that no curve reads, counted from its first byte, the rate.
 const ARP_SYNC: usize = 4;
 
 const MONO_MODE: usize = 5;
 
-pub fn envelope_dials(out: &mut [u8], at: usize, older: &[u8], block: &[u8], from: usize) -> usize
+pub fn envelope_dials(out: &mut Writer, older: &[u8], block: &[u8], from: usize)
     requires { from + release_curve_place < block_length }
-    ensures { Puts out.old at (envelope_dials (byte_at older.now) (byte_at block.now) from) out.new result }
+    ensures { Puts out.old (envelope_dials (byte_at older.now) (byte_at block.now) from) out.new }
 {
-    let mut next = put_curved(
+    put_curved(
         out,
-        at,
         1300,
         b"Attack",
         older,
@@ -33,9 +33,8 @@ pub fn envelope_dials(out: &mut [u8], at: usize, older: &[u8], block: &[u8], fro
         from,
         from + ATTACK_CURVE,
     );
-    next = put_curved(
+    put_curved(
         out,
-        next,
         1620,
         b"Decay",
         older,
@@ -43,9 +42,8 @@ pub fn envelope_dials(out: &mut [u8], at: usize, older: &[u8], block: &[u8], fro
         from + DECAY,
         from + DECAY_CURVE,
     );
-    next = put_curved(
+    put_curved(
         out,
-        next,
         1940,
         b"Sustain",
         older,
@@ -55,7 +53,6 @@ pub fn envelope_dials(out: &mut [u8], at: usize, older: &[u8], block: &[u8], fro
     );
     put_curved(
         out,
-        next,
         2260,
         b"Release",
         older,
@@ -65,29 +62,21 @@ pub fn envelope_dials(out: &mut [u8], at: usize, older: &[u8], block: &[u8], fro
     )
 }
 
-pub fn lfo_dials(out: &mut [u8], at: usize, older: &[u8], block: &[u8], from: usize) -> usize
+pub fn lfo_dials(out: &mut Writer, older: &[u8], block: &[u8], from: usize)
     requires { from + slew_place < block_length }
-    ensures { Puts out.old at (lfo_dials (byte_at older.now) (byte_at block.now) from) out.new result }
+    ensures { Puts out.old (lfo_dials (byte_at older.now) (byte_at block.now) from) out.new }
 {
-    let mut next = put_shape(out, at, older, block, from + SHAPE);
-    next = put_plain(out, next, 1620, b"Slew rate", older, block, from + SLEW);
-    put_switch(out, next, 1940, b"Key sync", older, block, from + KEY_SYNC)
+    put_shape(out, older, block, from + SHAPE);
+    put_plain(out, 1620, b"Slew rate", older, block, from + SLEW);
+    put_switch(out, 1940, b"Key sync", older, block, from + KEY_SYNC);
 }
 
 // The bytes of an LFO that no curve draws.
-pub fn lfo_other_dials(out: &mut [u8], at: usize, older: &[u8], block: &[u8], from: usize) -> usize
+pub fn lfo_other_dials(out: &mut Writer, older: &[u8], block: &[u8], from: usize)
     requires { from + slew_place < block_length }
-    ensures { Puts out.old at (lfo_other_dials (byte_at older.now) (byte_at block.now) from) out.new result }
+    ensures { Puts out.old (lfo_other_dials (byte_at older.now) (byte_at block.now) from) out.new }
 {
-    let mut next = put_plain(out, at, 1300, b"Rate", older, block, from);
-    next = put_switch(out, next, 1620, b"Arp sync", older, block, from + ARP_SYNC);
-    put_plain(
-        out,
-        next,
-        1940,
-        b"Mono mode",
-        older,
-        block,
-        from + MONO_MODE,
-    )
+    put_plain(out, 1300, b"Rate", older, block, from);
+    put_switch(out, 1620, b"Arp sync", older, block, from + ARP_SYNC);
+    put_plain(out, 1940, b"Mono mode", older, block, from + MONO_MODE)
 }

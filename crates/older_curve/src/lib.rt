@@ -7,15 +7,14 @@ ghost use Rattle.older_curve.specs.Older.{same_points, older_curve_text};
 
 use fixed_point::nearest;
 use panel_line::{SAMPLES, put_line};
+use text::Writer;
 
 // Whether two strips are drawn at the same points.
 fn same_points(old: &[f32; SAMPLES], new: &[f32; SAMPLES]) -> bool
     ensures { result ≡ same_points old.now new.now 501 }
 {
-    let mut left = SAMPLES;
-    while left > 0 {
-        left -= 1;
-        if nearest(old[left], 2500) != nearest(new[left], 2500) {
+    for i in 0..SAMPLES {
+        if nearest(old[i], 2500) != nearest(new[i], 2500) {
             return false;
         }
     }
@@ -23,16 +22,10 @@ fn same_points(old: &[f32; SAMPLES], new: &[f32; SAMPLES]) -> bool
 }
 
 // The older curve lies beneath, where it differs.
-pub fn put_older_curve(
-    out: &mut [u8],
-    at: usize,
-    old: &[f32; SAMPLES],
-    new: &[f32; SAMPLES],
-) -> usize
-    ensures { Puts out.old at (older_curve_text old.now new.now) out.new result }
+pub fn put_older_curve(out: &mut Writer, old: &[f32; SAMPLES], new: &[f32; SAMPLES])
+    ensures { Puts out.old (older_curve_text old.now new.now) out.new }
 {
-    if same_points(old, new) {
-        return at;
+    if !same_points(old, new) {
+        put_line(out, b"<polyline class='u' points='", old);
     }
-    put_line(out, at, b"<polyline class='u' points='", old)
 }

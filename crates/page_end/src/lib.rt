@@ -6,10 +6,11 @@ ghost use Rattle.page_end.specs.End.{page_end};
 
 use arpeggio_panel::put_arpeggio;
 use page_head::put_foot;
+use text::Writer;
 
-pub fn end_page(out: &mut [u8], at: usize, file: &[u8], older: &[u8], block: &[u8]) -> usize
-    ensures { Puts out.old at (page_end file.now older.now block.now) out.new result }
+pub fn end_page(out: &mut Writer, file: &[u8], older: &[u8], block: &[u8])
+    ensures { Puts out.old (page_end file.now older.now block.now) out.new }
 {
-    let next = put_arpeggio(out, at, older, block);
-    put_foot(out, next, file, block)
+    put_arpeggio(out, older, block);
+    put_foot(out, file, block);
 }

@@ -1,74 +1,49 @@
 // The panels of a page that have a code: one for each, in the order of their numbers, at a number of turns for the sampled shapes.
 #![tactic(auto)]
 
-ghost use Rattle.std.specs.Prelude.{◌≡◌, ◌<◌, length};
+ghost use Rattle.std.specs.Prelude.{Some, ◌<◌};
 ghost use Rattle.text.specs.Text.{Puts};
-ghost use Rattle.code_bytes.specs.Bytes.{block_length};
 ghost use Rattle.page_panels.specs.Panels.{code_panel, panel_text, panels_text};
 
 use code_shapes::shape_at;
-use codes::{CODES, Code, CodeRead, code_from};
+use codes::{CODES, Code, code_from};
+use compared_blocks::Blocks;
 use panel_curves::{put_drawn, put_older};
 use panel_dials::end_panel;
 use panel_frame::put_place;
 use settings::SampledTurns;
+use text::Writer;
 use turns::turned;
 
-fn put_panel(
-    out: &mut [u8],
-    at: usize,
-    sampled: SampledTurns,
-    older: &[u8],
-    block: &[u8],
-    k: u8,
-    code: Code,
-) -> usize
-    requires { (k < 15) × (length older.now ≡ block_length) × (length block.now ≡ block_length) }
-    ensures { Puts out.old at (code_panel sampled older.now block.now k (CodeRead.Known code)) out.new result }
+fn put_panel(out: &mut Writer, sampled: SampledTurns, blocks: Blocks, k: u8, code: Code)
+    requires { k < 15 }
+    ensures { Puts out.old (code_panel sampled blocks.entry.old.now blocks.entry.new.now k (Some code)) out.new }
 {
-    let old = turned(sampled, shape_at(older, code));
-    let shape = turned(sampled, shape_at(block, code));
-    let mut next = put_place(out, at, k);
-    next = put_older(out, next, old, shape);
-    next = put_drawn(out, next, shape);
-    end_panel(out, next, older, block, k, code)
+    let Blocks { old, new } = blocks;
+    let older = turned(sampled, shape_at(old, code));
+    let shape = turned(sampled, shape_at(new, code));
+    put_place(out, k);
+    put_older(out, older, shape);
+    put_drawn(out, shape);
+    end_panel(out, old, new, k, code);
 }
 
 // The panel of a code's number.
-fn put_numbered(
-    out: &mut [u8],
-    at: usize,
-    sampled: SampledTurns,
-    older: &[u8],
-    block: &[u8],
-    k: u8,
-) -> usize
-    requires { (k < 15) × (length older.now ≡ block_length) × (length block.now ≡ block_length) }
-    ensures { Puts out.old at (panel_text sampled older.now block.now k) out.new result }
+#[tactic(auto, using(text::proofs::Writing::puts_none), unfolding(crate::specs::Panels::panel_text, crate::specs::Panels::code_panel))]
+fn put_numbered(out: &mut Writer, sampled: SampledTurns, blocks: Blocks, k: u8)
+    requires { k < 15 }
+    ensures { Puts out.old (panel_text sampled blocks.entry.old.now blocks.entry.new.now k) out.new }
 {
-    let read = code_from(k);
-    match read {
-        CodeRead::Known(code) => put_panel(out, at, sampled, older, block, k, code),
-        CodeRead::Above => at,
+    if let Some(code) = code_from(k) {
+        put_panel(out, sampled, blocks, k, code);
     }
 }
 
 // The panels of a block beside an older one; without an older one, beside itself.
-pub fn put_panels(
-    out: &mut [u8],
-    at: usize,
-    sampled: SampledTurns,
-    older: &[u8],
-    block: &[u8],
-) -> usize
-    requires { (length older.now ≡ block_length) × (length block.now ≡ block_length) }
-    ensures { Puts out.old at (panels_text sampled older.now block.now 14) out.new result }
+pub fn put_panels(out: &mut Writer, sampled: SampledTurns, blocks: Blocks)
+    ensures { Puts out.old (panels_text sampled blocks.entry.old.now blocks.entry.new.now 14) out.new }
 {
-    let mut next = at;
-    let mut k: u8 = 0;
-    while k < CODES {
-        next = put_numbered(out, next, sampled, older, block, k);
-        k += 1;
+    for k in 0..CODES {
+        put_numbered(out, sampled, blocks, k);
     }
-    next
 }

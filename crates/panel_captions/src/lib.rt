@@ -9,77 +9,75 @@ use caption_cells::{cell_end, start_of};
 use labels::put_segment;
 use numerals::put_decimal;
 use panel_line::SAMPLES;
-use text::put;
+use text::{Writer, put};
 use words::put_word;
 
 // The widths that the names need, in hundredths of a millimetre.
 const NAMES: [u64; 4] = [800, 800, 920, 980];
 
 // The name of segment k, where it fits between the edges of its cell, or its letter.
-fn put_name(out: &mut [u8], at: usize, k: u8, left: u64, end: u64) -> usize
+#[tactic(auto, unfolding(crate::specs::Captions::name_text))]
+fn put_name(out: &mut Writer, k: u8, left: u64, end: u64)
     requires { (k < 4) × (left ≤ end) }
-    ensures { Puts out.old at (name_text k left end) out.new result }
+    ensures { Puts out.old (name_text k left end) out.new }
 {
     if NAMES[k as usize] <= end - left {
-        return put_segment(out, at, k);
+        put_segment(out, k)
+    } else {
+        put_word(out, b"A|D|S|R", k as usize)
     }
-    put_word(out, at, b"A|D|S|R", k as usize)
 }
 
-fn put_outline(out: &mut [u8], at: usize, start: u64, left: u64, end: u64) -> usize
-    ensures { Puts out.old at (outline_text start left end) out.new result }
+fn put_outline(out: &mut Writer, start: u64, left: u64, end: u64)
+    ensures { Puts out.old (outline_text start left end) out.new }
 {
-    let mut next = put(out, at, b"<path class='v' d='M");
-    next = put_decimal(out, next, start);
-    next = put(out, next, b"-2500V20L");
-    next = put_decimal(out, next, left);
-    next = put(out, next, b" 160V450H");
-    next = put_decimal(out, next, end);
-    put(out, next, b"'/>")
+    put(out, b"<path class='v' d='M");
+    put_decimal(out, start);
+    put(out, b"-2500V20L");
+    put_decimal(out, left);
+    put(out, b" 160V450H");
+    put_decimal(out, end);
+    put(out, b"'/>");
 }
 
-fn put_label(out: &mut [u8], at: usize, k: u8, left: u64, end: u64) -> usize
+fn put_label(out: &mut Writer, k: u8, left: u64, end: u64)
     requires { (k < 4) × (left ≤ end) × (end ≤ 20000) }
-    ensures { Puts out.old at (label_text k left end) out.new result }
+    ensures { Puts out.old (label_text k left end) out.new }
 {
-    let mut next = put(out, at, b"<text class='m' x='");
-    next = put_decimal(out, next, (left + end) / 2);
-    next = put(out, next, b"' y='391'>");
-    next = put_name(out, next, k, left, end);
-    put(out, next, b"</text>")
+    put(out, b"<text class='m' x='");
+    put_decimal(out, (left + end) / 2);
+    put(out, b"' y='391'>");
+    put_name(out, k, left, end);
+    put(out, b"</text>");
 }
 
 // The cell of segment k, whose samples start at `start`.
-fn put_cell(out: &mut [u8], at: usize, k: u8, start: u64, left: u64, end: u64) -> usize
+fn put_cell(out: &mut Writer, k: u8, start: u64, left: u64, end: u64)
     requires { (k < 4) × (end ≤ 20000) }
-    ensures { Puts out.old at (cell_between k start left end) out.new result }
+    ensures { Puts out.old (cell_between k start left end) out.new }
 {
     if left < end {
-        let next = put_outline(out, at, start, left, end);
-        return put_label(out, next, k, left, end);
+        put_outline(out, start, left, end);
+        put_label(out, k, left, end);
     }
-    at
 }
 
-fn put_edge(out: &mut [u8], at: usize, end: u64) -> usize
-    ensures { Puts out.old at (edge_text end) out.new result }
+fn put_edge(out: &mut Writer, end: u64)
+    ensures { Puts out.old (edge_text end) out.new }
 {
-    let mut next = put(out, at, b"<path class='v' d='M");
-    next = put_decimal(out, next, end);
-    put(out, next, b" 160V450'/>")
+    put(out, b"<path class='v' d='M");
+    put_decimal(out, end);
+    put(out, b" 160V450'/>");
 }
 
-pub fn put_captions(out: &mut [u8], at: usize, captions: &[u8; SAMPLES]) -> usize
-    ensures { Puts out.old at (captions_text captions.now) out.new result }
+pub fn put_captions(out: &mut Writer, captions: &[u8; SAMPLES])
+    ensures { Puts out.old (captions_text captions.now) out.new }
 {
-    let mut next = at;
     let mut left: u64 = 0;
-    let mut k: u8 = 0;
-    while k < 4 {
+    for k in 0..4 {
         let end = cell_end(captions, k, left);
-        next = put_cell(out, next, k, start_of(captions, k), left, end);
+        put_cell(out, k, start_of(captions, k), left, end);
         left = end;
-        k += 1;
     }
-    put_edge(out, next, left)
+    put_edge(out, left);
 }

@@ -8,13 +8,14 @@ ghost use Rattle.panel_dials.specs.Rest.{panel_rest};
 use codes::Code;
 use dials::put_dials;
 use panel_frame::{put_end, put_frame, put_title};
+use text::Writer;
 
 // The rest of panel k, after its curve.
-pub fn end_panel(out: &mut [u8], at: usize, older: &[u8], block: &[u8], k: u8, code: Code) -> usize
-    ensures { Puts out.old at (panel_rest (byte_at older.now) (byte_at block.now) k code) out.new result }
+pub fn end_panel(out: &mut Writer, older: &[u8], block: &[u8], k: u8, code: Code)
+    ensures { Puts out.old (panel_rest (byte_at older.now) (byte_at block.now) k code) out.new }
 {
-    let mut next = put_title(out, at, k);
-    next = put_frame(out, next);
-    next = put_dials(out, next, older, block, code);
-    put_end(out, next)
+    put_title(out, k);
+    put_frame(out);
+    put_dials(out, older, block, code);
+    put_end(out);
 }

@@ -7,45 +7,45 @@ ghost use Rattle.panel_frame.specs.Frame.{place_text, panel_end, frame_text, tit
 
 use fixed_point::nearest;
 use numerals::put_decimal;
-use text::put;
+use text::{Writer, put};
 
 // The start of panel k.
-pub fn put_place(out: &mut [u8], at: usize, k: u8) -> usize
+pub fn put_place(out: &mut Writer, k: u8)
     requires { k < 15 }
-    ensures { Puts out.old at (place_text k) out.new result }
+    ensures { Puts out.old (place_text k) out.new }
 {
-    let mut next = put(out, at, b"<g transform='translate(");
-    next = put_decimal(out, next, 1150 + 5600 * (k % 5) as u64);
-    next = put(out, next, b" ");
-    next = put_decimal(out, next, 5400 + 6050 * (k / 5) as u64);
-    put(out, next, b")'>")
+    put(out, b"<g transform='translate(");
+    put_decimal(out, 1150 + 5600 * (k % 5) as u64);
+    put(out, b" ");
+    put_decimal(out, 5400 + 6050 * (k / 5) as u64);
+    put(out, b")'>");
 }
 
-pub fn put_end(out: &mut [u8], at: usize) -> usize
-    ensures { Puts out.old at panel_end out.new result }
+pub fn put_end(out: &mut Writer)
+    ensures { Puts out.old panel_end out.new }
 {
-    put(out, at, b"</g>\n")
+    put(out, b"</g>\n");
 }
 
 // The title of panel k.
-pub fn put_title(out: &mut [u8], at: usize, k: u8) -> usize
-    ensures { Puts out.old at (title_text k) out.new result }
+pub fn put_title(out: &mut Writer, k: u8)
+    ensures { Puts out.old (title_text k) out.new }
 {
-    let mut next = put(out, at, b"<text class='t' y='-2930'>");
-    next = labels::put_title(out, next, k);
-    put(out, next, b"</text>")
+    put(out, b"<text class='t' y='-2930'>");
+    labels::put_title(out, k);
+    put(out, b"</text>");
 }
 
-pub fn put_frame(out: &mut [u8], at: usize) -> usize
-    ensures { Puts out.old at frame_text out.new result }
+pub fn put_frame(out: &mut Writer)
+    ensures { Puts out.old frame_text out.new }
 {
-    put(out, at, b"<path class='f' d='M0-2500H5000V0H0Z'/>")
+    put(out, b"<path class='f' d='M0-2500H5000V0H0Z'/>");
 }
 
-pub fn put_rest(out: &mut [u8], at: usize, rest: f32) -> usize
-    ensures { Puts out.old at (rest_text rest) out.new result }
+pub fn put_rest(out: &mut Writer, rest: f32)
+    ensures { Puts out.old (rest_text rest) out.new }
 {
-    let mut next = put(out, at, b"<path class='r' d='M0-");
-    next = put_decimal(out, next, nearest(rest, 2500));
-    put(out, next, b"H5000'/>")
+    put(out, b"<path class='r' d='M0-");
+    put_decimal(out, nearest(rest, 2500));
+    put(out, b"H5000'/>");
 }

@@ -6,28 +6,26 @@ ghost use Rattle.text.specs.Text.{Puts};
 ghost use Rattle.panel_gates.specs.GateText.{older_gate, gate_text};
 
 use gates::arpeggiator_gates;
-use text::put;
+use text::{Writer, put};
 
 // ---- the arpeggio's
-fn put_older_gate(out: &mut [u8], at: usize, was: u8, time: u8) -> usize
-    ensures { Puts out.old at (older_gate was time) out.new result }
+fn put_older_gate(out: &mut Writer, was: u8, time: u8)
+    ensures { Puts out.old (older_gate was time) out.new }
 {
-    if was == time {
-        return at;
+    if was != time {
+        panel_bars::put_older_bars(out, arpeggiator_gates(was));
     }
-    panel_bars::put_older_bars(out, at, arpeggiator_gates(was))
 }
 
 // What is drawn of the gates.
-pub fn put_gate(out: &mut [u8], at: usize, was: u8, time: u8) -> usize
-    ensures { Puts out.old at (gate_text was time) out.new result }
+pub fn put_gate(out: &mut Writer, was: u8, time: u8)
+    ensures { Puts out.old (gate_text was time) out.new }
 {
-    let mut next = put(
+    put(
         out,
-        at,
         b"<text y='-2600'>4 steps, starts at the left edge</text>",
     );
-    next = put_older_gate(out, next, was, time);
-    next = panel_bars::put_bars(out, next, arpeggiator_gates(time));
-    panel_bars::put_steps(out, next)
+    put_older_gate(out, was, time);
+    panel_bars::put_bars(out, arpeggiator_gates(time));
+    panel_bars::put_steps(out);
 }

@@ -8,51 +8,55 @@ ghost use Rattle.panel_labels.specs.Labels.{nearest_whole, turns_text, scale_tex
 use fixed_point::nearest;
 use generator::Scale;
 use numerals::put_decimal;
-use text::put;
+use text::{Writer, put};
 
 // ---- the line between title and frame
+#[tactic(auto, unfolding(crate::specs::Labels::nearest_whole))]
 fn nearest_whole(x: f32) -> u64
     ensures { result ≡ nearest_whole x }
 {
     nearest(x / 8.0, 8)
 }
 
-fn put_turns(out: &mut [u8], at: usize, n: u64) -> usize
-    ensures { Puts out.old at (turns_text n) out.new result }
+fn put_turns(out: &mut Writer, n: u64)
+    ensures { Puts out.old (turns_text n) out.new }
 {
     if n == 1 {
-        return put(out, at, b"1 turn, ");
+        put(out, b"1 turn, ")
+    } else {
+        put_decimal(out, n);
+        put(out, b" turns, ")
     }
-    let next = put_decimal(out, at, n);
-    put(out, next, b" turns, ")
 }
 
-fn put_scale(out: &mut [u8], at: usize, scale: Scale) -> usize
-    ensures { Puts out.old at (scale_text scale) out.new result }
+fn put_scale(out: &mut Writer, scale: Scale)
+    ensures { Puts out.old (scale_text scale) out.new }
 {
     match scale {
-        Scale::Normalised => at,
-        Scale::Turns(x) => put_turns(out, at, nearest_whole(x)),
+        Scale::Normalised => {}
+        Scale::Turns(x) => put_turns(out, nearest_whole(x)),
         Scale::Octaves(x) => {
-            let next = put_decimal(out, at, nearest_whole(x));
-            put(out, next, b" octaves, ")
+            put_decimal(out, nearest_whole(x));
+            put(out, b" octaves, ")
         }
     }
 }
 
-fn put_edge(out: &mut [u8], at: usize, anchored: bool) -> usize
-    ensures { Puts out.old at (edge_text anchored) out.new result }
+#[tactic(auto, unfolding(crate::specs::Labels::edge_text))]
+fn put_edge(out: &mut Writer, anchored: bool)
+    ensures { Puts out.old (edge_text anchored) out.new }
 {
     if anchored {
-        return put(out, at, b"starts at the left edge</text>");
+        put(out, b"starts at the left edge</text>")
+    } else {
+        put(out, b"may start anywhere</text>")
     }
-    put(out, at, b"may start anywhere</text>")
 }
 
-pub fn put_subtitle(out: &mut [u8], at: usize, scale: Scale, anchored: bool) -> usize
-    ensures { Puts out.old at (subtitle_text scale anchored) out.new result }
+pub fn put_subtitle(out: &mut Writer, scale: Scale, anchored: bool)
+    ensures { Puts out.old (subtitle_text scale anchored) out.new }
 {
-    let mut next = put(out, at, b"<text y='-2600'>");
-    next = put_scale(out, next, scale);
-    put_edge(out, next, anchored)
+    put(out, b"<text y='-2600'>");
+    put_scale(out, scale);
+    put_edge(out, anchored);
 }

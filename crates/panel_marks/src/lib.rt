@@ -5,9 +5,9 @@ ghost use Rattle.std.specs.Prelude.{◌≡◌, ◌<◌};
 ghost use Rattle.text.specs.Text.{Puts};
 ghost use Rattle.panel_marks.specs.Marks.{cycle_row, row_of, marks_text};
 
-use lists::at_most;
 use mark_rules::put_mark;
 use marks::{MAX_MARKS, MarkKind, Marks};
+use text::Writer;
 
 // The row of cycle mark k: of up to six marks the fourth, of more the third and the fourth in turn, for the words of eight cycles have no room beside each other.
 fn cycle_row(count: usize, k: usize) -> usize
@@ -34,17 +34,11 @@ fn row(count: usize, k: usize, kind: MarkKind) -> usize
     }
 }
 
-pub fn put_marks(out: &mut [u8], at: usize, marks: Marks) -> usize
-    ensures { Puts out.old at (marks_text marks) out.new result }
+pub fn put_marks(out: &mut Writer, marks: Marks)
+    ensures { Puts out.old (marks_text marks) out.new }
 {
-    let count = at_most(marks.count, MAX_MARKS);
-    let mut next = at;
-    let mut i: usize = 0;
-    while i < count {
+    for i in 0..marks.count.min(MAX_MARKS) {
         let mark = marks.places[i];
-        let kind = mark.kind;
-        next = put_mark(out, next, row(marks.count, i, kind), mark);
-        i += 1;
+        put_mark(out, row(marks.count, i, mark.kind), mark);
     }
-    next
 }

@@ -9,19 +9,20 @@ ghost use Rattle.tone_dials.specs.Tones.{low_pass_dials, oscillator_dials};
 use code_bytes::{DEPTH, POLE, PULSE, RESONANCE, SAW, SOURCE};
 use dial_lines::put_plain;
 use dial_words::{put_depth, put_poles, put_source, put_switch};
+use text::Writer;
 
-pub fn low_pass_dials(out: &mut [u8], at: usize, older: &[u8], block: &[u8]) -> usize
-    ensures { Puts out.old at (low_pass_dials (byte_at older.now) (byte_at block.now)) out.new result }
+pub fn low_pass_dials(out: &mut Writer, older: &[u8], block: &[u8])
+    ensures { Puts out.old (low_pass_dials (byte_at older.now) (byte_at block.now)) out.new }
 {
-    let next = put_plain(out, at, 1300, b"Resonance", older, block, RESONANCE);
-    put_poles(out, next, older, block, POLE)
+    put_plain(out, 1300, b"Resonance", older, block, RESONANCE);
+    put_poles(out, older, block, POLE);
 }
 
-pub fn oscillator_dials(out: &mut [u8], at: usize, older: &[u8], block: &[u8]) -> usize
-    ensures { Puts out.old at (oscillator_dials (byte_at older.now) (byte_at block.now)) out.new result }
+pub fn oscillator_dials(out: &mut Writer, older: &[u8], block: &[u8])
+    ensures { Puts out.old (oscillator_dials (byte_at older.now) (byte_at block.now)) out.new }
 {
-    let mut next = put_switch(out, at, 1300, b"Saw", older, block, SAW);
-    next = put_switch(out, next, 1620, b"Pulse", older, block, PULSE);
-    next = put_source(out, next, older, block, SOURCE);
-    put_depth(out, next, older, block, DEPTH, SOURCE)
+    put_switch(out, 1300, b"Saw", older, block, SAW);
+    put_switch(out, 1620, b"Pulse", older, block, PULSE);
+    put_source(out, older, block, SOURCE);
+    put_depth(out, older, block, DEPTH, SOURCE);
 }

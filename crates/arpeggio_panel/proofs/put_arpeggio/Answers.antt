@@ -6,9 +6,9 @@ use Rattle.arpeggio_panel.proofs.put_arpeggio.Goals as goal
 pub returns : goal.returns
 unfolding arpeggio_text
 returns c =
-    c.put_place-next.ensures ⨾
-    c.put_title-next.ensures ⨾
-    c.put_gates-next.ensures ⨾
-    c.put_frame-next.ensures ⨾
-    c.put_dial-next.ensures ⨾
+    c.put_place.ensures ⨾
+    c.put_title.ensures ⨾
+    c.put_gates.ensures ⨾
+    c.put_frame.ensures ⨾
+    c.put_dial.ensures ⨾
     c.put_end.ensures

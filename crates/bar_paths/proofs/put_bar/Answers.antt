@@ -6,6 +6,6 @@ use Rattle.bar_paths.proofs.put_bar.Goals as goal
 pub returns : goal.returns
 unfolding bar_text
 returns c =
-    c.put_corner-next.ensures ⨾
-    c.put_corner-next-2.ensures ⨾
+    c.put_corner.ensures ⨾
+    c.put_corner-2.ensures ⨾
     c.put.ensures

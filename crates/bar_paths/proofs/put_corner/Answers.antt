@@ -6,5 +6,5 @@ use Rattle.bar_paths.proofs.put_corner.Goals as goal
 pub returns : goal.returns
 unfolding corner_text
 returns c =
-    rw c.nearest.ensures.0 at (c.put-next.ensures ⨾
+    rw c.nearest.ensures.0 at (c.put.ensures ⨾
     c.put_decimal.ensures)

@@ -6,7 +6,7 @@ use Rattle.compared_head.proofs.put_compared_head.Goals as goal
 pub returns : goal.returns
 unfolding compared_head
 returns c =
-    c.put_compared_title-next.ensures ⨾
-    c.put_side-next.ensures ⨾
-    c.put_side-next-2.ensures ⨾
+    c.put_compared_title.ensures ⨾
+    c.put_side.ensures ⨾
+    c.put_side-2.ensures ⨾
     c.put.ensures

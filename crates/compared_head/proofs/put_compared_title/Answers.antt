@@ -6,8 +6,8 @@ use Rattle.compared_head.proofs.put_compared_title.Goals as goal
 pub returns : goal.returns
 unfolding compared_title
 returns c =
-    c.put-next.ensures ⨾
-    c.put_name-next.ensures ⨾
-    c.put-next-2.ensures ⨾
-    c.put_name-next-2.ensures ⨾
-    c.put.ensures
+    c.put.ensures ⨾
+    c.put_name.ensures ⨾
+    c.put-2.ensures ⨾
+    c.put_name-2.ensures ⨾
+    c.put-3.ensures

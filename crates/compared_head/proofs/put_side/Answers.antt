@@ -6,8 +6,8 @@ use Rattle.compared_head.proofs.put_side.Goals as goal
 pub returns : goal.returns
 unfolding side_text
 returns c =
-    c.put-next.ensures ⨾
-    c.put_name-next.ensures ⨾
-    c.put-next-2.ensures ⨾
-    c.put_file-next.ensures ⨾
-    c.put.ensures
+    c.put.ensures ⨾
+    c.put_name.ensures ⨾
+    c.put-2.ensures ⨾
+    c.put_file.ensures ⨾
+    c.put-3.ensures

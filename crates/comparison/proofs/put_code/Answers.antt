@@ -6,10 +6,10 @@ use Rattle.comparison.proofs.put_code.Goals as goal
 
 pub returns-then-same : goal.returns-then-same
 unfolding generator_text
-returns-then-same c = simp (sym c.same.ensures ∙ c.if-same.true) (rw c.code_number.ensures at c.put_title-titled.ensures ⨾ c.put.ensures)
+returns-then-same c = simp (sym c.same.ensures ∙ c.if-same.true) (rw c.code_number.ensures at c.put_title.ensures ⨾ c.put.ensures)
 
-pub returns : goal.returns
+pub returns-else-same : goal.returns-else-same
 unfolding generator_text
-returns c =
+returns-else-same c =
     simp (sym c.same.ensures ∙ c.if-same.false)
-    (rw c.code_number.ensures at c.put_title-titled.ensures ⨾ (puts_as (ap largest_text c.largest_of.ensures) c.put_largest-next.ensures ⨾ c.put_code_changes.ensures))
+    (rw c.code_number.ensures at c.put_title.ensures ⨾ (puts_as (ap largest_text c.largest_of.ensures) c.put_largest.ensures ⨾ c.put_code_changes.ensures))

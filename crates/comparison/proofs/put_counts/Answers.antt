@@ -7,7 +7,7 @@ pub returns : goal.returns
 unfolding counts_text
 returns c =
     simp (← c.count_codes.ensures.0, ← c.count_gate.ensures.0, ← c.count_undrawn.ensures.0)
-    (c.put_decimal-next.ensures ⨾
-    c.put-next.ensures ⨾
-    c.put_decimal-next-2.ensures ⨾
-    c.put.ensures)
+    (c.put_decimal.ensures ⨾
+    c.put.ensures ⨾
+    c.put_decimal-2.ensures ⨾
+    c.put-2.ensures)

@@ -6,8 +6,8 @@ use Rattle.comparison.proofs.put_gate.Goals as goal
 
 pub returns-then-same_bytes : goal.returns-then-same_bytes
 unfolding gate_text
-returns-then-same_bytes c = simp (sym c.same_bytes.ensures ∙ c.if-same_bytes.true) (c.put_title-titled.ensures ⨾ c.put.ensures)
+returns-then-same_bytes c = simp (sym c.same_bytes.ensures ∙ c.if-same_bytes.true) (c.put_title.ensures ⨾ c.put.ensures)
 
-pub returns : goal.returns
+pub returns-else-same_bytes : goal.returns-else-same_bytes
 unfolding gate_text
-returns c = simp (sym c.same_bytes.ensures ∙ c.if-same_bytes.false) (c.put_title-titled.ensures ⨾ (c.put-next.ensures ⨾ c.put_changes.ensures))
+returns-else-same_bytes c = simp (sym c.same_bytes.ensures ∙ c.if-same_bytes.false) (c.put_title.ensures ⨾ (c.put-else-same_bytes.ensures ⨾ c.put_changes.ensures))

@@ -7,8 +7,8 @@ use Rattle.comparison.proofs.put_largest.Goals as goal
 pub returns : goal.returns
 unfolding largest_text sample_position
 returns c = simp (← c.sample_position.ensures)
-    (c.put-next.ensures ⨾
-    c.put_nine_places-next.ensures ⨾
-    c.put-next-2.ensures ⨾
-    c.put_nine_places-next-2.ensures ⨾
-    c.put.ensures)
+    (c.put.ensures ⨾
+    c.put_nine_places.ensures ⨾
+    c.put-2.ensures ⨾
+    c.put_nine_places-2.ensures ⨾
+    c.put-3.ensures)

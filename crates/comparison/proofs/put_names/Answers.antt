@@ -6,8 +6,8 @@ use Rattle.comparison.proofs.put_names.Goals as goal
 pub returns : goal.returns
 unfolding names_text
 returns c =
-    c.put-next.ensures ⨾
-    c.put_name_in_line-next.ensures ⨾
-    c.put-next-2.ensures ⨾
-    c.put_name_in_line-next-2.ensures ⨾
-    c.put.ensures
+    c.put.ensures ⨾
+    c.put_name_in_line.ensures ⨾
+    c.put-2.ensures ⨾
+    c.put_name_in_line-2.ensures ⨾
+    c.put-3.ensures

@@ -6,8 +6,8 @@ use Rattle.comparison.proofs.put_programs.Goals as goal
 pub returns : goal.returns
 unfolding programs_text
 returns c =
-    c.put_names-next.ensures ⨾
-    c.put_codes-next.ensures ⨾
-    c.put_gate-next.ensures ⨾
-    c.put_undrawn_part-next.ensures ⨾
+    c.put_names.ensures ⨾
+    c.put_codes.ensures ⨾
+    c.put_gate.ensures ⨾
+    c.put_undrawn_part.ensures ⨾
     c.put_counts.ensures

@@ -6,15 +6,15 @@ use Rattle.comparison_bytes.proofs.put_change.Goals as goal
 
 pub returns-then-a-b : goal.returns-then-a-b
 unfolding change_text
-returns-then-a-b c = simp (eq-eqb _ _ c.if-a-b.true) (puts_none _ _)
+returns-then-a-b c = simp (eq-eqb _ _ c.if-a-b.true) (puts_none _)
 
 pub returns : goal.returns
 unfolding change_text
 returns c = simp (ne_eqb _ _ c.if-a-b.false)
-    (c.put-next.ensures ⨾
-    c.put_byte_name-next.ensures ⨾
-    c.put-next-2.ensures ⨾
-    c.put_decimal-next.ensures ⨾
-    c.put-next-3.ensures ⨾
-    c.put_decimal-next-2.ensures ⨾
-    c.put.ensures)
+    (c.put.ensures ⨾
+    c.put_byte_name.ensures ⨾
+    c.put-2.ensures ⨾
+    c.put_decimal.ensures ⨾
+    c.put-3.ensures ⨾
+    c.put_decimal-2.ensures ⨾
+    c.put-4.ensures)

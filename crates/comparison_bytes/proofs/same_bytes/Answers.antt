@@ -1,16 +1,15 @@
-use mathlib.Core.Path.{refl}
-use Rattle.comparison_bytes.proofs.ByteLines.{same_more, same_not, same_all}
+-- `same_bytes` is `same_bytes`. Assumes nothing.
+use mathlib.Core.Path.{◌∙◌}
+use lib.Dec.{eqb}
 use borrow.Author.Rules.{rules}
+use borrow.Author.Tests.{tests}
+use Rattle.code_bytes.specs.Bytes.{byte_at}
+use Rattle.std.proofs.lemmas.Iterator.{YieldsList-from_slice}
+use Rattle.std.proofs.lemmas.Iterator.Search.{all_from_yields_List}
+use Rattle.comparison_bytes.proofs.ByteLines.{every_same}
 use Rattle.comparison_bytes.proofs.same_bytes.Goals as goal
 
-pub loop-i-init : goal.loop-i-init
-loop-i-init c = (search rules, refl)
-
-pub returns-then-byte_at : goal.returns-then-byte_at
-returns-then-byte_at c = same_not _ _ _ _ c.loop-i-test.true _ _ c.byte_at.ensures c.byte_at-in-loop-i.ensures c.if-byte_at.true _ c.loop-i.invariant.1
-
-pub loop-i-preserved : goal.loop-i-preserved
-loop-i-preserved c = (search rules, same_more _ _ _ _ c.loop-i-test.true _ _ c.byte_at.ensures c.byte_at-in-loop-i.ensures c.if-byte_at.false _ c.loop-i.invariant.1)
-
 pub returns : goal.returns
-returns c = same_all _ _ _ _ _ c.loop-i-test.false c.loop-i.invariant.1
+returns c =
+    all_from_yields_List (λ n. eqb (byte_at c.args.old.now n) (byte_at c.args.new.now n)) _ _ _ c.all.ensures.ran (YieldsList-from_slice c.args.bytes.now cc) (λ x b q k. search (rules, tests))
+    ∙ every_same _ _ _

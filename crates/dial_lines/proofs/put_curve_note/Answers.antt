@@ -6,7 +6,7 @@ use Rattle.dial_lines.proofs.put_curve_note.Goals as goal
 pub returns : goal.returns
 unfolding curve_note
 returns c =
-    c.put-next.ensures ⨾
-    c.put_decimal-next.ensures ⨾
-    c.put-next-2.ensures ⨾
+    c.put.ensures ⨾
+    c.put_decimal.ensures ⨾
+    c.put-2.ensures ⨾
     c.put_was.ensures

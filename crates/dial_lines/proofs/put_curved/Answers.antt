@@ -6,6 +6,6 @@ use Rattle.dial_lines.proofs.put_curved.Goals as goal
 pub returns : goal.returns
 unfolding dial_text
 returns c =
-    rw (c.byte_at.ensures, c.byte_at-2.ensures, c.byte_at-3.ensures, c.byte_at-4.ensures) at (c.start-next.ensures ⨾
-    c.put_curve_note-next.ensures ⨾
+    rw (c.byte_at.ensures, c.byte_at-2.ensures) at (c.start_line.ensures.text ⨾
+    c.put_curve_note.ensures ⨾
     c.end.ensures)

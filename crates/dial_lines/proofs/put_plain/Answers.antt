@@ -6,5 +6,5 @@ use Rattle.dial_lines.proofs.put_plain.Goals as goal
 pub returns : goal.returns
 unfolding plain_dial
 returns c =
-    rw (c.byte_at.ensures, c.byte_at-2.ensures) at (c.start-next.ensures ⨾
-    c.end.ensures)
+    c.start_line.ensures.text ⨾
+    c.end.ensures

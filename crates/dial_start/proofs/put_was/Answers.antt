@@ -6,11 +6,8 @@ use Rattle.dial_start.proofs.put_was.Goals as goal
 
 pub returns-then-was-b : goal.returns-then-was-b
 unfolding was_text
-returns-then-was-b c = simp (eq-eqb _ _ c.if-was-b.true) (puts_none _ _)
+returns-then-was-b c = simp (ne_eqb _ _ c.if-was-b.true) (c.put.ensures ⨾ c.put_decimal.ensures ⨾ c.put-then-was-b.ensures)
 
-pub returns : goal.returns
+pub returns-else-was-b : goal.returns-else-was-b
 unfolding was_text
-returns c =
-    simp (ne_eqb _ _ c.if-was-b.false) (c.put-next.ensures ⨾
-    c.put_decimal-next.ensures ⨾
-    c.put.ensures)
+returns-else-was-b c = simp (eq-eqb _ _ c.if-was-b.false) (puts_none _)

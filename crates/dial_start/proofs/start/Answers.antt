@@ -6,8 +6,8 @@ use Rattle.dial_start.proofs.start.Goals as goal
 pub returns : goal.returns
 unfolding dial_start
 returns c =
-    c.start_name-next.ensures ⨾
-    c.put_decimal-next.ensures ⨾
-    c.put-next.ensures ⨾
-    c.put_was-next.ensures ⨾
+    c.start_name.ensures ⨾
+    c.put_decimal.ensures ⨾
+    c.put.ensures ⨾
+    c.put_was.ensures ⨾
     c.start_note.ensures

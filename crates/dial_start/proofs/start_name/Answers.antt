@@ -6,8 +6,8 @@ use Rattle.dial_start.proofs.start_name.Goals as goal
 pub returns : goal.returns
 unfolding name_start
 returns c =
-    c.put-next.ensures ⨾
-    c.put_decimal-next.ensures ⨾
-    c.put-next-2.ensures ⨾
-    c.put-next-3.ensures ⨾
-    c.put.ensures
+    c.put.ensures ⨾
+    c.put_decimal.ensures ⨾
+    c.put-2.ensures ⨾
+    c.put-3.ensures ⨾
+    c.put-4.ensures

@@ -6,6 +6,6 @@ use Rattle.dial_words.proofs.put_depth.Goals as goal
 pub returns : goal.returns
 unfolding dial_text
 returns c =
-    rw (c.byte_at.ensures, c.byte_at-2.ensures, c.byte_at-3.ensures) at (c.start-next.ensures ⨾
-    c.put_depth-next.ensures ⨾
+    rw c.byte_at.ensures at (c.start_line.ensures.text ⨾
+    c.put_depth.ensures ⨾
     c.end.ensures)

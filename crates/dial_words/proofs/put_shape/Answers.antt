@@ -6,6 +6,6 @@ use Rattle.dial_words.proofs.put_shape.Goals as goal
 pub returns : goal.returns
 unfolding dial_text
 returns c =
-    rw (c.byte_at-b.ensures, c.byte_at.ensures) at (c.start-next.ensures ⨾
-    c.put_shape-next.ensures ⨾
+    rw c.start_line-b.ensures.byte at (c.start_line-b.ensures.text ⨾
+    c.put_shape.ensures ⨾
     c.end.ensures)

@@ -6,9 +6,9 @@ use Rattle.mark_rules.proofs.put_label.Goals as goal
 pub returns : goal.returns
 unfolding label_text
 returns c =
-    c.put-next.ensures ⨾
-    c.put_decimal-next.ensures ⨾
-    c.put-next-2.ensures ⨾
-    c.put_decimal-next-2.ensures ⨾
-    c.put-next-3.ensures ⨾
+    c.put.ensures ⨾
+    c.put_decimal.ensures ⨾
+    c.put-2.ensures ⨾
+    c.put_decimal-2.ensures ⨾
+    c.put-3.ensures ⨾
     c.put_kind.ensures

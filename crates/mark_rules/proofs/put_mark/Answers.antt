@@ -7,5 +7,5 @@ pub returns : goal.returns
 unfolding mark_text
 returns c =
     rw c.nearest-across.ensures.0 at
-    (c.put_rule-next.ensures ⨾
+    (c.put_rule.ensures ⨾
     c.put_label.ensures)

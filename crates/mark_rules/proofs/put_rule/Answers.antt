@@ -6,8 +6,8 @@ use Rattle.mark_rules.proofs.put_rule.Goals as goal
 pub returns : goal.returns
 unfolding rule_text
 returns c =
-    c.put-next.ensures ⨾
-    c.put_decimal-next.ensures ⨾
-    c.put-next-2.ensures ⨾
-    c.put_decimal-next-2.ensures ⨾
-    c.put.ensures
+    c.put.ensures ⨾
+    c.put_decimal.ensures ⨾
+    c.put-2.ensures ⨾
+    c.put_decimal-2.ensures ⨾
+    c.put-3.ensures

@@ -1,16 +1,18 @@
-use mathlib.Core.Path.{refl, sym, ◌∙◌}
-use Rattle.older_curve.proofs.Points.{point_same, point_other, no_points}
-use borrow.Author.Rules.{rules}
+use mathlib.Core.Path.{refl, sym}
+use native.Mathlib.Nat.{le_antisymm}
+use Rattle.older_curve.specs.Older.{same_points}
+use Rattle.older_curve.proofs.Points.{point_same, point_other}
 use Rattle.older_curve.proofs.same_points.Goals as goal
 
-pub loop-left-init : goal.loop-left-init
-loop-left-init c = (search rules, refl)
+pub loop-i-init : goal.loop-i-init
+unfolding same_points
+loop-i-init c = refl
 
 pub returns-then-nearest : goal.returns-then-nearest
-returns-then-nearest c = sym (c.loop-left.invariant.1 ∙ point_other _ _ _ _ _ c.loop-left-test.true c.nearest.ensures.0 c.nearest-in-loop-left.ensures.0 c.if-nearest.true)
+returns-then-nearest c = sym (point_other _ _ _ c.nearest.ensures.0 c.nearest-in-loop-i.ensures.0 c.if-nearest.true 501 c.loop-i-test.true)
 
-pub loop-left-preserved : goal.loop-left-preserved
-loop-left-preserved c = (search rules, c.loop-left.invariant.1 ∙ point_same _ _ _ _ _ c.loop-left-test.true c.nearest.ensures.0 c.nearest-in-loop-left.ensures.0 c.if-nearest.false)
+pub loop-i-preserved : goal.loop-i-preserved
+loop-i-preserved c = point_same _ _ _ c.nearest.ensures.0 c.nearest-in-loop-i.ensures.0 c.if-nearest.false c.loop-i.invariant
 
 pub returns : goal.returns
-returns c = sym (c.loop-left.invariant.1 ∙ no_points _ _ _ c.loop-left-test.false)
+returns c = sym (rw (le_antisymm c.loop-i.auto.i-end c.loop-i-test.false) at c.loop-i.invariant)

@@ -1,11 +1,8 @@
--- `same_points` is `same_points` of all 501. The loop's invariant: the first samples decide, those that are left. Assumes nothing.
+-- `same_points` is `same_points` of all 501. The loop's invariant: the first i samples are drawn at the same points. Assumes nothing.
 use mathlib.Core.Path.{◌≡◌}
-use Prim.Native.Nat.{◌≤◌}
+use mathlib.Core.Bool.{true}
 use Rattle.older_curve.specs.Older.{same_points}
 use Rattle.older_curve.proofs.same_points.Given as goal
 
-abbrev pub invariant-loop-left : goal.invariant-loop-left
-invariant-loop-left l = (l.left ≤ 501) × (same_points l.old l.new 501 ≡ same_points l.old l.new l.left)
-
-abbrev pub decreases-loop-left : goal.decreases-loop-left
-decreases-loop-left l = l.left
+abbrev pub invariant-loop-i : goal.invariant-loop-i
+invariant-loop-i l = same_points l.old l.new l.i ≡ true

@@ -6,5 +6,5 @@ use Rattle.page.proofs.put_body.Goals as goal
 pub returns : goal.returns
 unfolding body_text
 returns c =
-    c.put_panels-next.ensures ⨾
+    c.put_panels.ensures ⨾
     c.end_page.ensures

@@ -6,6 +6,6 @@ use Rattle.page.proofs.put_comparison.Goals as goal
 pub returns : goal.returns
 unfolding comparison_of
 returns c =
-    c.put_style-next.ensures ⨾
-    c.put_compared_head-next.ensures ⨾
+    c.put_style.ensures ⨾
+    c.put_compared_head.ensures ⨾
     c.put_body.ensures

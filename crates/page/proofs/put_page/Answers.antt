@@ -6,6 +6,6 @@ use Rattle.page.proofs.put_page.Goals as goal
 pub returns : goal.returns
 unfolding page_of
 returns c =
-    c.put_style-next.ensures ⨾
-    c.put_head-next.ensures ⨾
+    c.put_style.ensures ⨾
+    c.put_head.ensures ⨾
     c.put_body.ensures

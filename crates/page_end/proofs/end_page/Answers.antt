@@ -6,5 +6,5 @@ use Rattle.page_end.proofs.end_page.Goals as goal
 pub returns : goal.returns
 unfolding page_end
 returns c =
-    c.put_arpeggio-next.ensures ⨾
+    c.put_arpeggio.ensures ⨾
     c.put_foot.ensures

@@ -6,6 +6,6 @@ use Rattle.page_head.proofs.put_foot.Goals as goal
 pub returns : goal.returns
 unfolding foot_text
 returns c =
-    c.put-next.ensures ⨾
-    c.put_file-next.ensures ⨾
-    c.put.ensures
+    c.put.ensures ⨾
+    c.put_file.ensures ⨾
+    c.put-2.ensures

@@ -6,8 +6,8 @@ use Rattle.page_head.proofs.put_head.Goals as goal
 pub returns : goal.returns
 unfolding head_text
 returns c =
-    c.put-next.ensures ⨾
-    c.put_name-next.ensures ⨾
-    c.put-next-2.ensures ⨾
-    c.put_name-next-2.ensures ⨾
-    c.put.ensures
+    c.put.ensures ⨾
+    c.put_name.ensures ⨾
+    c.put-2.ensures ⨾
+    c.put_name-2.ensures ⨾
+    c.put-3.ensures

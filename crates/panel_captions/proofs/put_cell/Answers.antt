@@ -6,8 +6,8 @@ use Rattle.panel_captions.proofs.put_cell.Goals as goal
 
 pub returns-then-left-end : goal.returns-then-left-end
 unfolding cell_between
-returns-then-left-end c = simp (lt-ltb _ _ c.if-left-end.true) (c.put_outline-next.ensures ⨾ c.put_label.ensures)
+returns-then-left-end c = simp (lt-ltb _ _ c.if-left-end.true) (c.put_outline.ensures ⨾ c.put_label.ensures)
 
-pub returns : goal.returns
+pub returns-else-left-end : goal.returns-else-left-end
 unfolding cell_between
-returns c = simp (le-ltb _ _ c.if-left-end.false) (puts_none _ _)
+returns-else-left-end c = simp (le-ltb _ _ c.if-left-end.false) (puts_none _)

@@ -5,4 +5,4 @@ use Rattle.panel_captions.proofs.put_edge.Goals as goal
 
 pub returns : goal.returns
 unfolding edge_text
-returns c = c.put-next.ensures ⨾ c.put_decimal-next.ensures ⨾ c.put.ensures
+returns c = c.put.ensures ⨾ c.put_decimal.ensures ⨾ c.put-2.ensures

@@ -6,10 +6,10 @@ use Rattle.panel_captions.proofs.put_outline.Goals as goal
 pub returns : goal.returns
 unfolding outline_text
 returns c =
-    c.put-next.ensures ⨾
-    c.put_decimal-next.ensures ⨾
-    c.put-next-2.ensures ⨾
-    c.put_decimal-next-2.ensures ⨾
-    c.put-next-3.ensures ⨾
-    c.put_decimal-next-3.ensures ⨾
-    c.put.ensures
+    c.put.ensures ⨾
+    c.put_decimal.ensures ⨾
+    c.put-2.ensures ⨾
+    c.put_decimal-2.ensures ⨾
+    c.put-3.ensures ⨾
+    c.put_decimal-3.ensures ⨾
+    c.put-4.ensures

@@ -18,4 +18,4 @@ returns c =
       c.fill_once.ensures.1,
       c.of_shape-g.ensures,
     ) at
-    (c.put_subtitle-next.ensures ⨾ c.put_rest-next.ensures ⨾ c.put_marked-next.ensures ⨾ c.put_curve.ensures))
+    (c.put_subtitle.ensures ⨾ c.put_rest.ensures ⨾ c.put_marked.ensures ⨾ c.put_curve.ensures))

@@ -6,7 +6,7 @@ use Rattle.panel_dials.proofs.end_panel.Goals as goal
 pub returns : goal.returns
 unfolding panel_rest
 returns c =
-    c.put_title-next.ensures ⨾
-    c.put_frame-next.ensures ⨾
-    c.put_dials-next.ensures ⨾
+    c.put_title.ensures ⨾
+    c.put_frame.ensures ⨾
+    c.put_dials.ensures ⨾
     c.put_end.ensures

@@ -6,8 +6,8 @@ use Rattle.panel_frame.proofs.put_place.Goals as goal
 pub returns : goal.returns
 unfolding place_text
 returns c =
-    c.put-next.ensures ⨾
-    c.put_decimal-next.ensures ⨾
-    c.put-next-2.ensures ⨾
-    c.put_decimal-next-2.ensures ⨾
-    c.put.ensures
+    c.put.ensures ⨾
+    c.put_decimal.ensures ⨾
+    c.put-2.ensures ⨾
+    c.put_decimal-2.ensures ⨾
+    c.put-3.ensures

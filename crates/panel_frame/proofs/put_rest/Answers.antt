@@ -7,6 +7,6 @@ pub returns : goal.returns
 unfolding rest_text
 returns c =
     rw c.nearest.ensures.0 at
-    (c.put-next.ensures ⨾
-    c.put_decimal-next.ensures ⨾
-    c.put.ensures)
+    (c.put.ensures ⨾
+    c.put_decimal.ensures ⨾
+    c.put-2.ensures)

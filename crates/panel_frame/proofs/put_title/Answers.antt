@@ -5,4 +5,4 @@ use Rattle.panel_frame.proofs.put_title.Goals as goal
 
 pub returns : goal.returns
 unfolding title_text
-returns c = c.put-next.ensures ⨾ c.put_title-next.ensures ⨾ c.put.ensures
+returns c = c.put.ensures ⨾ c.put_title.ensures ⨾ c.put-2.ensures

@@ -6,7 +6,7 @@ use Rattle.panel_gates.proofs.put_gate.Goals as goal
 pub returns : goal.returns
 unfolding gate_text
 returns c =
-    rw c.arpeggiator_gates.ensures at (c.put-next.ensures ⨾
-    c.put_older_gate-next.ensures ⨾
-    c.put_bars-next.ensures ⨾
+    rw c.arpeggiator_gates.ensures at (c.put.ensures ⨾
+    c.put_older_gate.ensures ⨾
+    c.put_bars.ensures ⨾
     c.put_steps.ensures)

@@ -6,8 +6,8 @@ use Rattle.panel_gates.proofs.put_older_gate.Goals as goal
 
 pub returns-then-was-time : goal.returns-then-was-time
 unfolding older_gate
-returns-then-was-time c = simp (eq-eqb _ _ c.if-was-time.true) (puts_none _ _)
+returns-then-was-time c = simp (ne_eqb _ _ c.if-was-time.true) (rw c.arpeggiator_gates.ensures at c.put_older_bars.ensures)
 
-pub returns : goal.returns
+pub returns-else-was-time : goal.returns-else-was-time
 unfolding older_gate
-returns c = simp (ne_eqb _ _ c.if-was-time.false) (rw c.arpeggiator_gates.ensures at c.put_older_bars.ensures)
+returns-else-was-time c = simp (eq-eqb _ _ c.if-was-time.false) (puts_none _)

@@ -6,6 +6,6 @@ use Rattle.panel_labels.proofs.put_subtitle.Goals as goal
 pub returns : goal.returns
 unfolding subtitle_text
 returns c =
-    c.put-next.ensures ⨾
-    c.put_scale-next.ensures ⨾
+    c.put.ensures ⨾
+    c.put_scale.ensures ⨾
     c.put_edge.ensures

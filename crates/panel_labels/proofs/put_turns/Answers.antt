@@ -8,7 +8,7 @@ pub returns-then-n-eq1 : goal.returns-then-n-eq1
 unfolding turns_text
 returns-then-n-eq1 c = simp c.if-n-eq1.true c.put.ensures
 
-pub returns : goal.returns
+pub returns-else-n-eq1 : goal.returns-else-n-eq1
 unfolding turns_text
-returns c = simp (ne_eqb _ _ c.if-n-eq1.false) (c.put_decimal-next.ensures ⨾
-    c.put-2.ensures)
+returns-else-n-eq1 c = simp (ne_eqb _ _ c.if-n-eq1.false) (c.put_decimal.ensures ⨾
+    c.put-else-n-eq1.ensures)

@@ -7,7 +7,7 @@ pub returns : goal.returns
 unfolding point_text
 returns c =
     rw c.nearest.ensures.0 at
-    (c.put_decimal-next.ensures ⨾
-    c.put-next.ensures ⨾
-    c.put_decimal-next-2.ensures ⨾
-    c.put.ensures)
+    (c.put_decimal.ensures ⨾
+    c.put.ensures ⨾
+    c.put_decimal-2.ensures ⨾
+    c.put-2.ensures)

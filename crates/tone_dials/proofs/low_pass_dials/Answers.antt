@@ -6,5 +6,5 @@ use Rattle.tone_dials.proofs.low_pass_dials.Goals as goal
 pub returns : goal.returns
 unfolding low_pass_dials
 returns c =
-    c.put_plain-next.ensures ⨾
+    c.put_plain.ensures ⨾
     c.put_poles.ensures

@@ -6,7 +6,7 @@ use Rattle.tone_dials.proofs.oscillator_dials.Goals as goal
 pub returns : goal.returns
 unfolding oscillator_dials
 returns c =
-    c.put_switch-next.ensures ⨾
-    c.put_switch-next-2.ensures ⨾
-    c.put_source-next.ensures ⨾
+    c.put_switch.ensures ⨾
+    c.put_switch-2.ensures ⨾
+    c.put_source.ensures ⨾
     c.put_depth.ensures

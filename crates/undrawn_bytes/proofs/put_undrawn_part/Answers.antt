@@ -21,7 +21,9 @@ module _ (a b : ℕ → ℕ) (n : ℕ) (e : n ≡ undrawn_count block_length a b
   some_differ h = simp (ne_eqb _ _ (λ q. h (e ∙ q)))
 
 pub returns-then-count_undrawn-eq0 : goal.returns-then-count_undrawn-eq0
-returns-then-count_undrawn-eq0 c = puts_as (none_differs _ _ _ c.count_undrawn.ensures.0 c.if-count_undrawn-eq0.true) (c.put-titled.ensures ⨾ c.put.ensures)
+returns-then-count_undrawn-eq0 c = puts_as (none_differs _ _ _ c.count_undrawn.ensures.0 c.if-count_undrawn-eq0.true) (c.put.ensures ⨾ c.put-then-count_undrawn-eq0.ensures)
 
-pub returns : goal.returns
-returns c = puts_as (some_differ _ _ _ c.count_undrawn.ensures.0 c.if-count_undrawn-eq0.false) (c.put-titled.ensures ⨾ (c.put-next.ensures ⨾ c.put_undrawn.ensures))
+pub returns-else-count_undrawn-eq0 : goal.returns-else-count_undrawn-eq0
+returns-else-count_undrawn-eq0 c =
+    puts_as (some_differ _ _ _ c.count_undrawn.ensures.0 c.if-count_undrawn-eq0.false)
+    (c.put.ensures ⨾ (c.put-else-count_undrawn-eq0.ensures ⨾ c.put_undrawn.ensures))

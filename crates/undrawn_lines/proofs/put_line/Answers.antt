@@ -6,8 +6,8 @@ use Rattle.undrawn_lines.proofs.put_line.Goals as goal
 pub returns : goal.returns
 unfolding line_text
 returns c =
-    c.put_named-next.ensures ⨾
-    c.put_decimal-next.ensures ⨾
-    c.put-next.ensures ⨾
-    c.put_decimal-next-2.ensures ⨾
-    c.put.ensures
+    c.put_named.ensures ⨾
+    c.put_decimal.ensures ⨾
+    c.put.ensures ⨾
+    c.put_decimal-2.ensures ⨾
+    c.put-2.ensures

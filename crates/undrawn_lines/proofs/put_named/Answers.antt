@@ -6,8 +6,8 @@ use Rattle.undrawn_lines.proofs.put_named.Goals as goal
 pub returns : goal.returns
 unfolding named_text
 returns c =
-    c.put-next.ensures ⨾
-    c.put_parameter_name-next.ensures ⨾
-    c.put-next-2.ensures ⨾
-    c.put_decimal-next.ensures ⨾
-    c.put.ensures
+    c.put.ensures ⨾
+    c.put_parameter_name.ensures ⨾
+    c.put-2.ensures ⨾
+    c.put_decimal.ensures ⨾
+    c.put-3.ensures
