@@ -5,6 +5,7 @@ ghost use Rattle.checklist_rows.specs.Empty.{empty_input, empty_trial, from_zero
 use inputs::{input_height, part_bits};
 use trials::{Input, Trial};
 
+#[tactic(auto, unfolding(crate::specs::Empty::empty_input))]
 fn empty_input(n: u16) -> Input
     ensures { result ≡ empty_input n }
 {
@@ -19,12 +20,10 @@ fn empty_input(n: u16) -> Input
 fn from_zero_to_one(h: f32) -> bool
     ensures { result ≡ from_zero_to_one h }
 {
-    if 0.0 <= h {
-        return h <= 1.0;
-    }
-    false
+    0.0 <= h && h <= 1.0
 }
 
+#[tactic(auto, unfolding(crate::specs::Empty::empty_trial))]
 pub fn empty_trial(n: u16) -> Trial
     ensures { result ≡ empty_trial n }
 {

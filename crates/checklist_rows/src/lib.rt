@@ -4,49 +4,26 @@
 
 mod empty;
 
-ghost use Rattle.std.specs.Prelude.{◌≡◌};
+ghost use Rattle.std.specs.Prelude.{◌≡◌, ℕ};
+ghost use Rattle.trials.specs.declared.Trial.{Trial};
 ghost use Rattle.trials.specs.Trials.{row_of, numbered};
 ghost use Rattle.trials.specs.Noted.{noted_all};
-ghost use Rattle.checklist_rows.specs.Rows.{trial_of, empty_row, shapes_row, edges_row, slew_row};
+ghost use Rattle.checklist_rows.specs.Rows.{GivesBelow, empty_row, shapes_row, edges_row, slew_row};
 
 use edge_trials::{beyond_trial, known_trial};
+use empty::empty_trial;
 use shape_trials::{named_trial, unnamed_trial};
 use slew_trials::slew_trial;
 use trials::{Row, Trial, note, start};
 
-// Trials of one kind.
-#[derive(Clone, Copy)]
-pub enum Kind {
-    Empty,
-    Unnamed,
-    Named,
-    Known,
-    Beyond,
-    Slew,
-}
-
-fn trial(kind: Kind, n: u16) -> Trial
-    ensures { result ≡ trial_of kind n }
-{
-    match kind {
-        Kind::Empty => empty::empty_trial(n),
-        Kind::Unnamed => unnamed_trial(n),
-        Kind::Named => named_trial(n),
-        Kind::Known => known_trial(n),
-        Kind::Beyond => beyond_trial(n),
-        Kind::Slew => slew_trial(n),
-    }
-}
-
-// The row after the first trials of a kind.
-fn note_kind(row: Row, kind: Kind, count: u16) -> Row
-    ensures { result ≡ noted_all row (numbered (trial_of kind) count) }
+// The row after the first trials of some numbered ones.
+fn note_trials<F: Fn(u16) -> Trial>(row: Row, trial: F, count: u16) -> Row
+    requires { F.IsAlwaysCallable trial }
+    ensures { (f : ℕ → Trial) → GivesBelow (F.post trial) f count → result ≡ noted_all row (numbered f count) }
 {
     let mut next = row;
-    let mut n: u16 = 0;
-    while n < count {
-        next = note(next, trial(kind, n));
-        n += 1;
+    for n in 0..count {
+        next = note(next, trial(n));
     }
     next
 }
@@ -54,23 +31,23 @@ fn note_kind(row: Row, kind: Kind, count: u16) -> Row
 pub fn empty_program() -> Row
     ensures { result ≡ empty_row }
 {
-    note_kind(start(), Kind::Empty, 14350)
+    note_trials(start(), empty_trial, 14350)
 }
 
 pub fn every_shape_byte() -> Row
     ensures { result ≡ shapes_row }
 {
-    note_kind(note_kind(start(), Kind::Unnamed, 249), Kind::Named, 49)
+    note_trials(note_trials(start(), unnamed_trial, 249), named_trial, 49)
 }
 
 pub fn both_edges() -> Row
     ensures { result ≡ edges_row }
 {
-    note_kind(note_kind(start(), Kind::Known, 560), Kind::Beyond, 224)
+    note_trials(note_trials(start(), known_trial, 560), beyond_trial, 224)
 }
 
 pub fn both_slews() -> Row
     ensures { result ≡ slew_row }
 {
-    note_kind(start(), Kind::Slew, 910)
+    note_trials(start(), slew_trial, 910)
 }

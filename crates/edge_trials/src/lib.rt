@@ -2,7 +2,7 @@
 #![tactic(auto)]
 
 ghost use Rattle.std.specs.Prelude.{◌≡◌, get_or};
-ghost use Rattle.edge_trials.specs.Edges.{edge_trial, edges_of, no_edges, table, side_bits, side_height, known_at, known_trial, edge_bits, pattern_of, beyond_input, beyond_trial};
+ghost use Rattle.edge_trials.specs.Edges.{edge_trial, no_edges, table, side_bits, side_height, known_at, known_trial, edge_bits, pattern_of, beyond_input, beyond_trial};
 
 use float_bits::agrees;
 use inputs::input_height;
@@ -25,9 +25,42 @@ const LEFT: u32 = 0;
 const RIGHT: u32 = 0x3f80_0000;
 
 // ---- heights that are known beforehand
-fn edges_of(from: u32, to: u32, bytes: u64, left: u16, right: u16) -> Edges
-    ensures { result ≡ edges_of from to bytes left right }
+// The fields of an entry, in their order.
+const TABLE: [(u32, u32, u64, u16, u16); 20] = [
+    // envelopes: full times, which rise from 0 and fall to it; times 0 and a full sustain, with sustain curves 0 and 255
+    (0, 3, 0xffff_ffff_8080_8080, 0, 0),
+    (0, 3, 0x0000_ff00_8080_0080, 100, 0),
+    (0, 3, 0x0000_ff00_8080_ff80, 100, 100),
+    // the seven shapes
+    (3, 7, 0, 50, 50),
+    (3, 7, 0x1_0000, 0, 0),
+    (3, 7, 0x2_0000, 100, 0),
+    (3, 7, 0x3_0000, 0, 100),
+    (3, 7, 0x4_0000, 100, 0),
+    (3, 7, 0x5_0000, 72, 31),
+    (3, 7, 0x6_0000, 86, 63),
+    // fades of no time, and of full time
+    (7, 9, 0, 100, 100),
+    (7, 9, 0xff, 0, 100),
+    // a low-pass with no resonance: 0 decibels, and less than -48
+    (9, 10, 0, 80, 0),
+    // oscillator 1 with no wave, the saw, the pulse, and both
+    (11, 12, 0, 50, 50),
+    (11, 12, 0x100, 0, 100),
+    (11, 12, 0x1_0000, 100, 0),
+    (11, 12, 0x1_0100, 50, 50),
+    // oscillator 2 and noise, level 0; oscillator 2, level 255
+    (12, 14, 0, 50, 50),
+    (12, 13, 0xff, 100, 0),
+    // oscillator 1's pulse at its full width
+    (11, 12, 0x1_00ff, 100, 0),
+];
+
+#[tactic(auto, unfolding(crate::specs::Edges::table))]
+fn entry(k: u16) -> Edges
+    ensures { result ≡ get_or table k no_edges }
 {
+    let (from, to, bytes, left, right) = TABLE.get(k as usize).copied().unwrap_or((0, 0, 0, 0, 0));
     Edges {
         from,
         to,
@@ -37,42 +70,8 @@ fn edges_of(from: u32, to: u32, bytes: u64, left: u16, right: u16) -> Edges
     }
 }
 
-fn entry(k: u16) -> Edges
-    ensures { result ≡ get_or table k no_edges }
-{
-    match k {
-        // envelopes: full times, which rise from 0 and fall to it; times 0 and a full sustain, with sustain curves 0 and 255
-        0 => edges_of(0, 3, 0xffff_ffff_8080_8080, 0, 0),
-        1 => edges_of(0, 3, 0x0000_ff00_8080_0080, 100, 0),
-        2 => edges_of(0, 3, 0x0000_ff00_8080_ff80, 100, 100),
-        // the seven shapes
-        3 => edges_of(3, 7, 0, 50, 50),
-        4 => edges_of(3, 7, 0x1_0000, 0, 0),
-        5 => edges_of(3, 7, 0x2_0000, 100, 0),
-        6 => edges_of(3, 7, 0x3_0000, 0, 100),
-        7 => edges_of(3, 7, 0x4_0000, 100, 0),
-        8 => edges_of(3, 7, 0x5_0000, 72, 31),
-        9 => edges_of(3, 7, 0x6_0000, 86, 63),
-        // fades of no time, and of full time
-        10 => edges_of(7, 9, 0, 100, 100),
-        11 => edges_of(7, 9, 0xff, 0, 100),
-        // a low-pass with no resonance: 0 decibels, and less than -48
-        12 => edges_of(9, 10, 0, 80, 0),
-        // oscillator 1 with no wave, the saw, the pulse, and both
-        13 => edges_of(11, 12, 0, 50, 50),
-        14 => edges_of(11, 12, 0x100, 0, 100),
-        15 => edges_of(11, 12, 0x1_0000, 100, 0),
-        16 => edges_of(11, 12, 0x1_0100, 50, 50),
-        // oscillator 2 and noise, level 0; oscillator 2, level 255
-        17 => edges_of(12, 14, 0, 50, 50),
-        18 => edges_of(12, 13, 0xff, 100, 0),
-        // oscillator 1's pulse at its full width
-        19 => edges_of(11, 12, 0x1_00ff, 100, 0),
-        _ => edges_of(0, 0, 0, 0, 0),
-    }
-}
-
 // An input's height agrees with the one that is expected.
+#[tactic(auto, unfolding(crate::specs::Edges::edge_trial))]
 fn edge_trial(input: Input, expected: f32) -> Trial
     ensures { result ≡ edge_trial input expected }
 {
@@ -84,6 +83,7 @@ fn edge_trial(input: Input, expected: f32) -> Trial
     }
 }
 
+// A side is a digit of the trial's number, as in the definition: an enum would be made of it and taken apart at once.
 fn side_bits(side: u16) -> u32
     ensures { result ≡ side_bits side }
 {
@@ -93,6 +93,7 @@ fn side_bits(side: u16) -> u32
     RIGHT
 }
 
+#[tactic(auto, unfolding(crate::specs::Edges::side_height))]
 fn side_height(e: Edges, side: u16) -> f32
     ensures { result ≡ side_height e side }
 {
@@ -102,13 +103,11 @@ fn side_height(e: Edges, side: u16) -> f32
     sample_position(e.right, 100)
 }
 
+#[tactic(auto, unfolding(crate::specs::Edges::known_at))]
 fn known_at(e: Edges, code: u32, side: u16) -> Trial
     ensures { result ≡ known_at e code side }
 {
-    if code < e.from {
-        return no_trial();
-    }
-    if e.to <= code {
+    if code < e.from || e.to <= code {
         return no_trial();
     }
     let input = Input {
@@ -120,6 +119,7 @@ fn known_at(e: Edges, code: u32, side: u16) -> Trial
 }
 
 // Each entry, code and side.
+#[tactic(auto, unfolding(crate::specs::Edges::known_trial))]
 pub fn known_trial(n: u16) -> Trial
     ensures { result ≡ known_trial n }
 {
@@ -148,7 +148,7 @@ fn edge_bits(k: u16) -> u32
     RIGHT
 }
 
-// Two patterns of bytes.
+// Two patterns of bytes. k is a digit of the trial's number, as a side is.
 fn pattern(k: u16) -> u64
     ensures { result ≡ pattern_of k }
 {
@@ -158,6 +158,7 @@ fn pattern(k: u16) -> u64
     0x5555_5555_5555_5555
 }
 
+#[tactic(auto, unfolding(crate::specs::Edges::beyond_input))]
 fn beyond_input(n: u16, position: u32) -> Input
     ensures { result ≡ beyond_input n position }
 {
@@ -169,6 +170,7 @@ fn beyond_input(n: u16, position: u32) -> Input
 }
 
 // Each code, pattern and position has the edge's height.
+#[tactic(auto, unfolding(crate::specs::Edges::beyond, crate::specs::Edges::beyond_trial))]
 pub fn beyond_trial(n: u16) -> Trial
     ensures { result ≡ beyond_trial n }
 {

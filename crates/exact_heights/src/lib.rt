@@ -15,11 +15,11 @@ pub struct Reading {
     pub line: Line,
 }
 
+#[tactic(auto, unfolding(crate::specs::Exact::stepped))]
 fn step(reading: Reading, b: u8) -> Reading
     ensures { result ≡ stepped reading b }
 {
-    let row = reading.row;
-    let line = reading.line;
+    let Reading { row, line } = reading;
     if b == b'\n' {
         return Reading {
             row: note(row, line_trial(end_line(line))),
@@ -40,12 +40,8 @@ pub fn exact_row(list: &[u8]) -> Row
         row: start(),
         line: no_line(),
     };
-    let mut i: usize = 0;
-    while i < list.len() {
-        reading = step(reading, list[i]);
-        i += 1;
+    for b in list {
+        reading = step(reading, *b);
     }
-    let row = reading.row;
-    let line = reading.line;
-    note(row, line_trial(end_line(line)))
+    note(reading.row, line_trial(end_line(reading.line)))
 }

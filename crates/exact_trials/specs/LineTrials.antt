@@ -1,5 +1,5 @@
 -- THE TRIAL OF A LINE OF THE LIST OF EXACT HEIGHTS: docs/SPECIFICATION.md, "The checklist". Definitions only.
-use Rattle.std.specs.Prelude.{Bool, false, cond, ℕ, ◌%◌, ◌^◌, min, eqb, get_or}
+use Rattle.std.specs.Prelude.{Bool, false, cond, is_none, ℕ, ◌%◌, ◌^◌, min, eqb, get_or}
 use Rattle.fixed_point.specs.Between.{within_of}
 use Rattle.trials.specs.declared.Input.{Input}
 use Rattle.trials.specs.declared.Trial.{Trial}
@@ -18,7 +18,7 @@ line_input l = record { code = min (number_at l 0) 4294967295; bytes = number_at
 
 -- Five numbers, and nothing else.
 unfoldable pub is_whole : Line → Bool
-is_whole l = cond l.wrong false (cond (eqb l.letter 0) (eqb l.count 5) false)
+is_whole l = cond l.wrong false (cond (is_none l.letter) (eqb l.count 5) false)
 
 -- The height lies between the line's last two numbers. A line with something else on it fails, and a blank one is not tried.
 unfoldable pub line_trial : Line → Trial

@@ -15,36 +15,31 @@ use trials::{Input, Trial, no_trial};
 fn code_of(n: u64) -> u32
     ensures { result ≡ min n 4294967295 }
 {
-    if n < 0xffff_ffff {
-        return n as u32;
-    }
-    0xffff_ffff
+    n.min(0xffff_ffff) as u32
 }
 
+#[tactic(auto, unfolding(crate::specs::LineTrials::line_input))]
 fn line_input(line: Line) -> Input
     ensures { result ≡ line_input line }
 {
+    let [code, bytes, position, ..] = line.numbers;
     Input {
-        code: code_of(line.numbers[0]),
-        bytes: line.numbers[1],
-        position: low_word(line.numbers[2]),
+        code: code_of(code),
+        bytes,
+        position: low_word(position),
     }
 }
 
 // Five numbers, and nothing else.
+#[tactic(auto, unfolding(crate::specs::LineTrials::is_whole))]
 fn is_whole(line: Line) -> bool
     ensures { result ≡ is_whole line }
 {
-    if line.wrong {
-        return false;
-    }
-    if line.letter == 0 {
-        return line.count == 5;
-    }
-    false
+    !line.wrong && line.letter.is_none() && line.count == 5
 }
 
 // A line has five numbers, or nothing.
+#[tactic(auto, unfolding(crate::specs::LineTrials::line_trial))]
 pub fn line_trial(line: Line) -> Trial
     ensures { result ≡ line_trial line }
 {
@@ -52,16 +47,9 @@ pub fn line_trial(line: Line) -> Trial
         return no_trial();
     }
     let input = line_input(line);
-    if is_whole(line) {
-        let h = input_height(input);
-        return Trial {
-            right: within(h.height, line.numbers[3], line.numbers[4]),
-            values: 1,
-            input,
-        };
-    }
+    let [_, _, _, low, high, ..] = line.numbers;
     Trial {
-        right: false,
+        right: is_whole(line) && within(input_height(input).height, low, high),
         values: 1,
         input,
     }

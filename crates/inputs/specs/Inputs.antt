@@ -1,16 +1,14 @@
 -- THE BLOCK OF AN INPUT, AND ITS HEIGHT: docs/SPECIFICATION.md, "The checklist". Definitions only.
-use Rattle.std.specs.Prelude.{List, [], ◌∷◌, ℕ, ◌+◌, ◌*◌, ◌/◌, ◌%◌, ◌^◌, length, set, replicate}
+use Rattle.refusals.specs.declared.Refusal.{Refusal}
+use Rattle.std.specs.Prelude.{List, [], ◌∷◌, ℕ, ◌+◌, ◌*◌, ◌/◌, ◌%◌, ◌^◌, length, set, replicate, Option, None, Some, Result, Ok, Err}
 use Rattle.std.specs.Float.{nan, binary32}
 use Rattle.std.specs.Float.Ieee.{to_bits}
 use Rattle.exact.specs.Binary32.{bits}
 use Rattle.curve.specs.declared.Height.{Height}
 use Rattle.strip.specs.Strip.{part_of}
-use Rattle.codes.specs.declared.CodeRead.{CodeRead}
-use Rattle.codes.specs.declared.CodeRead.TheVariants.{Known, Above}
+use Rattle.codes.specs.declared.Code.{Code}
 use Rattle.codes.specs.Codes.{code_of}
 use Rattle.code_bytes.specs.Bytes.{bytes_of, block_length}
-use Rattle.block.specs.declared.HeightAnswer.{HeightAnswer}
-use Rattle.block.specs.declared.HeightAnswer.TheVariants.{Height as AHeight, Refused}
 use Rattle.block.specs.Refusals.{chosen_of, height_answer}
 use Rattle.trials.specs.declared.Input.{Input}
 
@@ -21,9 +19,9 @@ with_bytes [] n block = block
 with_bytes (p ∷ places) n block = set (with_bytes places n block) p (n / 256 ^ length places % 256)
 
 -- The places are those that the code reads; a code that is not known reads none.
-unfoldable pub places_of : CodeRead → List ℕ
-places_of (Known c) = bytes_of c
-places_of Above = []
+unfoldable pub places_of : Option Code → List ℕ
+places_of (Some c) = bytes_of c
+places_of None = []
 
 unfoldable pub with_input : Input → List ℕ → List ℕ
 with_input i block = with_bytes (places_of (code_of i.code)) i.bytes block
@@ -34,9 +32,9 @@ block_of i = with_input i (replicate block_length 0)
 
 -- ---- its height
 -- A NaN where it is refused.
-unfoldable pub height_given : HeightAnswer → Height
-height_given (AHeight h) = h
-height_given (Refused r) = record { height = nan; steps = 0 }
+unfoldable pub height_given : Result Height Refusal → Height
+height_given (Ok h) = h
+height_given (Err r) = record { height = nan; steps = 0 }
 
 unfoldable pub input_height : Input → Height
 input_height i = height_given (height_answer (chosen_of (block_of i) i.code) (bits i.position))

@@ -7,11 +7,11 @@ ghost use Rattle.std.specs.Float.Ieee.{to_bits};
 ghost use Rattle.code_bytes.specs.Bytes.{bytes_of};
 ghost use Rattle.inputs.specs.Inputs.{with_bytes, with_input, height_given, input_height, part_bits, lfo_input};
 
-use block::HeightAnswer;
 use code_bytes::bytes_of;
-use codes::{Code, CodeRead, code_read};
+use codes::{Code, code_read};
 use curve::Height;
 use float_bits::{float_of, low_byte, word_of};
+use refusals::Refusal;
 use strip::sample_position;
 use trials::Input;
 
@@ -30,11 +30,9 @@ fn put_places(program: &mut [u8], places: &[u8], bytes: u64)
     ensures { program.new ≡ with_bytes places.now bytes program.old }
 {
     let mut rest = bytes;
-    let mut left = places.len();
-    while left > 0 {
-        left -= 1;
-        put_at(program, places[left], low_byte(rest));
-        rest = rest / 256;
+    for i in (0..places.len()).rev() {
+        put_at(program, places[i], low_byte(rest));
+        rest /= 256;
     }
 }
 
@@ -47,13 +45,12 @@ fn put_bytes(program: &mut [u8], code: Code, bytes: u64)
 }
 
 // A code that is not known reads no byte.
+#[tactic(auto, unfolding(crate::specs::Inputs::with_bytes, crate::specs::Inputs::places_of, crate::specs::Inputs::with_input))]
 fn put_input(program: &mut [u8], input: Input)
     ensures { program.new ≡ with_input input program.old }
 {
-    let read = code_read(input.code);
-    match read {
-        CodeRead::Known(code) => put_bytes(program, code, input.bytes),
-        CodeRead::Above => {}
+    if let Some(code) = code_read(input.code) {
+        put_bytes(program, code, input.bytes);
     }
 }
 
@@ -65,12 +62,12 @@ fn zeros() -> [u8; 242]
 
 // ---- its height
 // Where the input is refused the height is a NaN.
-fn of_answer(answer: HeightAnswer) -> Height
+fn of_answer(answer: Result<Height, Refusal>) -> Height
     ensures { result ≡ height_given answer }
 {
     match answer {
-        HeightAnswer::Height(h) => h,
-        HeightAnswer::Refused(_) => Height {
+        Ok(h) => h,
+        Err(_) => Height {
             height: 0.0 / 0.0,
             steps: 0,
         },

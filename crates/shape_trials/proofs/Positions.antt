@@ -1,7 +1,6 @@
 -- ONE POSITION MORE at which two shape bytes are held against each other. Assumes nothing.
 use mathlib.Core.Path.{◌≡◌, refl}
-use Prim.Native.Nat.{ℕ, ◌+◌, ◌≤◌}
-use native.Mathlib.Nat.{le_antisymm}
+use Prim.Native.Nat.{ℕ, ◌+◌}
 use native.Mathlib.Numerals.{add-one}
 use Rattle.shape_trials.specs.Shapes.{differs_at, differing}
 
@@ -12,6 +11,3 @@ none_compared a b = refl
 pub one_compared : (a b i : ℕ) {count more : ℕ} → count ≡ differing a b i → more ≡ differs_at a b i → count + more ≡ differing a b (i + 1)
 unfolding differing
 one_compared a b i e f = simp (e, f, add-one)
-
-pub all_compared : (a b i n : ℕ) {count : ℕ} → i ≤ n → n ≤ i → count ≡ differing a b i → count ≡ differing a b n
-all_compared a b i n h k e = let s : i ≡ n = le_antisymm h k in rw s at e

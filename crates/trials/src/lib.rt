@@ -3,7 +3,7 @@
 
 ghost use Rattle.std.specs.Prelude.{◌≡◌, []};
 ghost use Rattle.trials.specs.Trials.{no_input, nothing, row_of, passes_of};
-ghost use Rattle.trials.specs.Noted.{plus_of, noted_of};
+ghost use Rattle.trials.specs.Noted.{noted_of};
 
 // A height that is asked for: the generator's code, the bytes that it reads as one number, and the position's bits.
 #[derive(Clone, Copy)]
@@ -32,18 +32,6 @@ pub struct Row {
     pub inputs: [Input; KEPT],
 }
 
-const MOST: u32 = 0xffff_ffff;
-
-// A sum that stays at the largest count.
-fn plus(a: u32, b: u32) -> u32
-    ensures { result ≡ plus_of a b }
-{
-    if a < MOST - b {
-        return a + b;
-    }
-    MOST
-}
-
 fn no_input() -> Input
     ensures { result ≡ no_input }
 {
@@ -66,6 +54,7 @@ pub fn no_trial() -> Trial
 }
 
 // The row of no trials.
+#[tactic(auto, unfolding(crate::specs::Trials::row_by, crate::specs::Trials::row_of, crate::specs::Trials::values_of, crate::specs::Trials::failing_of, lists::specs::Padded::padded))]
 pub fn start() -> Row
     ensures { result ≡ row_of [] }
 {
@@ -77,30 +66,27 @@ pub fn start() -> Row
 }
 
 // The row after one trial more.
+#[tactic(auto, unfolding(crate::specs::Noted::kept_with, crate::specs::Noted::noted_by, crate::specs::Noted::noted_of))]
 pub fn note(row: Row, trial: Trial) -> Row
     ensures { result ≡ noted_of row trial }
 {
     let mut next = row;
-    next.tried = plus(row.tried, trial.values);
+    next.tried = row.tried.saturating_add(trial.values);
     if trial.right {
         return next;
     }
     let at = row.failed as usize;
-    next.failed = plus(row.failed, 1);
+    next.failed = row.failed.saturating_add(1);
     if at < KEPT {
-        let input = trial.input;
-        next.inputs[at] = input;
-        return next;
+        next.inputs[at] = trial.input;
     }
     next
 }
 
 // Every trial is right, and something was compared.
+#[tactic(auto, unfolding(crate::specs::Trials::passes_of))]
 pub fn passes(row: Row) -> bool
     ensures { result ≡ passes_of row }
 {
-    if row.failed == 0 {
-        return 0 < row.tried;
-    }
-    false
+    row.failed == 0 && 0 < row.tried
 }

@@ -1,21 +1,13 @@
 -- `both_edges` is `edges_row`. Assumes nothing.
 use borrow.Author.Rules.{rules}
 use Rattle.trials.proofs.Rows.{row_of_both}
+use Rattle.edge_trials.specs.Edges.{known_trial, beyond_trial}
 use Rattle.checklist_rows.specs.Rows.{edges_row}
 use Rattle.checklist_rows.proofs.both_edges.Goals as goal
 
-pub start-requires : goal.start-requires
-unfolding edges_row
-start-requires c = search rules
-
-pub note_kind-requires : goal.note_kind-requires
-unfolding edges_row
-note_kind-requires c = search rules
-
-pub note_kind-requires-2 : goal.note_kind-requires-2
-unfolding edges_row
-note_kind-requires-2 c = search rules
-
 pub returns : goal.returns
 unfolding edges_row
-returns c = row_of_both _ _ c.start.ensures c.note_kind.ensures c.note_kind-2.ensures
+returns c =
+    row_of_both _ _ c.start.ensures
+    (c.note_trials.ensures known_trial (λ n t below given. search rules))
+    (c.note_trials-2.ensures beyond_trial (λ n t below given. search rules))
