@@ -4,6 +4,7 @@
 ghost use Rattle.std.specs.Prelude.{◌≡◌, length};
 
 use std::io;
+use text::Writer;
 
 // Room for the page, which has some 40,000 bytes. The contract gives its length only, which lending it as a slice asks for.
 fn buffer() -> [u8; 65536]
@@ -12,18 +13,12 @@ fn buffer() -> [u8; 65536]
     [0; 65536]
 }
 
-// Where the page ends.
-fn write_page(text: &mut [u8]) -> usize
-    ensures { length text.new ≡ length text.old }
-{
-    chart_page::page(text)
-}
-
 fn main(rt: HostRuntime) -> io::Result<()> {
     let mut text = buffer();
-    let end = write_page(&mut text);
-    if end < 65536 {
-        return rt.write_all(&text[..end]);
+    let mut page = Writer::new(&mut text);
+    chart_page::page(&mut page);
+    match page.whole() {
+        Some(text) => rt.write_all(text),
+        None => rt.write_all(b"the page is too long\n"),
     }
-    rt.write_all(b"the page is too long\n")
 }

@@ -4,12 +4,12 @@
 
 ghost use Rattle.std.specs.Prelude.{◌≡◌, length};
 
+use compared_blocks::BLOCK;
 use comparison::put_differences;
-use decimal_reading::read_at_most;
-use program_input::{argument, read_full};
+use program_input::{read_full, turns_argument};
 use refusals::{Refusal, refusal_number};
-use std::env::Env;
 use std::io;
+use text::Writer;
 
 // Room for the text, which has some 20,000 bytes where every byte differs. The contract gives its length only, which lending it as a slice asks for.
 fn buffer() -> [u8; 32768]
@@ -18,36 +18,24 @@ fn buffer() -> [u8; 32768]
     [0; 32768]
 }
 
-fn print_first(to: &impl Print, text: &[u8], n: usize) -> io::Result<()> {
-    if n < text.len() {
-        to.write_all(&text[..n])?;
-    }
-    Ok(())
-}
-
 fn refuse(to: &impl Print, r: Refusal) -> io::Result<()> {
     let number = refusal_number(r);
     println!(to; "refused {number}")
 }
 
-// No text is that of another number of turns: every other has some.
 fn print_differences(to: &impl Print, turns: u32, both: &[u8]) -> io::Result<()> {
-    if both.len() != 484 {
+    let Some((old, new)) = both.split_at_checked(BLOCK) else {
         return refuse(to, Refusal::Block);
-    }
+    };
     let mut text = buffer();
-    let n = put_differences(&mut text, 0, turns, &both[..242], &both[242..]);
-    if n == 0 {
-        return refuse(to, Refusal::Turns);
+    let mut page = Writer::new(&mut text);
+    if let Err(why) = put_differences(&mut page, turns, old, new) {
+        return refuse(to, why);
     }
-    print_first(to, &text, n)
-}
-
-// The argument as a number; 255, which is no number of turns, where it is a larger one or none.
-fn turns_argument(env: &impl Env) -> u32 {
-    let mut word = [0u8; 16];
-    let n = argument(env, 1, &mut word);
-    read_at_most(&word[..n], 255) as u32
+    match page.whole() {
+        Some(text) => to.write_all(text),
+        None => Ok(()),
+    }
 }
 
 fn main(rt: HostRuntime) -> io::Result<()> {

@@ -2,33 +2,30 @@
 #![tactic(auto)]
 
 use floor_lines::put_working;
-use hex_reading::{Pattern, read_pattern};
+use hex_reading::read_pattern;
 use program_input::argument;
 use std::io;
+use text::Writer;
 
 fn refuse(to: &impl Print) -> io::Result<()> {
     to.write_all(b"refused\n")
 }
 
-fn print_first(to: &impl Print, text: &[u8], n: usize) -> io::Result<()> {
-    if n < text.len() {
-        to.write_all(&text[..n])?;
-    }
-    Ok(())
-}
-
 fn print_working(to: &impl Print, b: u32) -> io::Result<()> {
     let mut text = [0u8; 512];
-    let n = put_working(&mut text, 0, b);
-    print_first(to, &text, n)
+    let mut page = Writer::new(&mut text);
+    put_working(&mut page, b);
+    match page.whole() {
+        Some(text) => to.write_all(text),
+        None => Ok(()),
+    }
 }
 
 fn main(rt: HostRuntime) -> io::Result<()> {
     let mut text = [0u8; 16];
     let n = argument(&rt, 1, &mut text);
-    let read = read_pattern(&text[..n]);
-    match read {
-        Pattern::Bits(b) => print_working(&rt, b),
-        Pattern::NotAPattern => refuse(&rt),
+    match read_pattern(&text[..n]) {
+        Some(b) => print_working(&rt, b),
+        None => refuse(&rt),
     }
 }

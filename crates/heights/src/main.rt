@@ -3,13 +3,11 @@
 
 ghost use Rattle.std.specs.Prelude.{◌≡◌, ◌≤◌, length};
 
-use block_strip::StripAnswer;
-use decimal_reading::read_at_most;
-use program_input::read_full;
+use program_input::{number_argument, read_full};
 use refusals::{Refusal, refusal_number};
 use rows::put_rows;
-use std::env::Env;
 use std::io;
+use text::Writer;
 
 // Room for one sample more than the longest strip has, for their captions, and for the rows of that. The contracts give the lengths only, which lending them as slices asks for.
 fn samples() -> [f32; 4097]
@@ -35,26 +33,14 @@ fn refuse(to: &impl Print, r: Refusal) -> io::Result<()> {
     println!(to; "refused {number}")
 }
 
-// Argument i as a number, and `most` where it is a larger one or none.
-fn argument(env: &impl Env, i: usize, most: u16) -> u16
-    ensures { result ≤ most }
-{
-    let mut text = [0u8; 16];
-    let n = program_input::argument(env, i, &mut text);
-    read_at_most(&text[..n], most)
-}
-
-fn print_first(to: &impl Print, text: &[u8], n: usize) -> io::Result<()> {
-    if n < text.len() {
-        to.write_all(&text[..n])?;
-    }
-    Ok(())
-}
-
 fn print_rows(to: &impl Print, heights: &[f32], captions: &[u8]) -> io::Result<()> {
     let mut text = page();
-    let n = put_rows(&mut text, 0, heights, captions);
-    print_first(to, &text, n)
+    let mut page = Writer::new(&mut text);
+    put_rows(&mut page, heights, captions);
+    match page.whole() {
+        Some(text) => to.write_all(text),
+        None => Ok(()),
+    }
 }
 
 // A strip that is filled, with the captions of its samples: what would refuse them has not refused the strip.
@@ -65,7 +51,7 @@ fn print_captioned(
     heights: &[f32],
     captions: &mut [u8],
 ) -> io::Result<()> {
-    block_captions::captions(block, code, captions);
+    let _ = block_captions::captions(block, code, captions);
     print_rows(to, heights, captions)
 }
 
@@ -82,19 +68,16 @@ fn print_strip(
     requires heights { n ≤ length heights.old }
     requires captions { n ≤ length captions.old }
 {
-    let answer = block_strip_turns::strip_once_turns(block, code, turns, &mut heights[..n]);
-    match answer {
-        StripAnswer::Filled(_) => {
-            print_captioned(to, block, code, &heights[..n], &mut captions[..n])
-        }
-        StripAnswer::Refused(r) => refuse(to, r),
+    match block_strip_turns::strip_once_turns(block, code, turns, &mut heights[..n]) {
+        Ok(_) => print_captioned(to, block, code, &heights[..n], &mut captions[..n]),
+        Err(r) => refuse(to, r),
     }
 }
 
 fn main(rt: HostRuntime) -> io::Result<()> {
-    let code = argument(&rt, 1, 255) as u32;
-    let n = argument(&rt, 2, 4097) as usize;
-    let turns = argument(&rt, 3, 255) as u32;
+    let code = number_argument(&rt, 1, 255) as u32;
+    let n = number_argument(&rt, 2, 4097) as usize;
+    let turns = number_argument(&rt, 3, 255) as u32;
     let mut block = [0u8; 243];
     let got = read_full(&mut rt.stdin(), &mut block)?;
     let mut heights = samples();

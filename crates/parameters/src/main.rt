@@ -5,6 +5,7 @@ ghost use Rattle.std.specs.Prelude.{◌≡◌, length};
 
 use program_input::{argument, read_full};
 use std::io;
+use text::Writer;
 
 // Room for the page, which has some 40,000 bytes. The contract gives its length only, which lending it as a slice asks for.
 fn buffer() -> [u8; 65536]
@@ -13,11 +14,16 @@ fn buffer() -> [u8; 65536]
     [0; 65536]
 }
 
-// Where the page of a block ends; 0 where there is none.
-fn write_page(file: &[u8], block: &[u8], text: &mut [u8]) -> usize
-    ensures { length text.new ≡ length text.old }
-{
-    parameters_page::page(file, block, text)
+fn print_page(to: &impl Print, file: &[u8], block: &[u8]) -> io::Result<()> {
+    let mut text = buffer();
+    let mut page = Writer::new(&mut text);
+    match parameters_page::page(&mut page, file, block) {
+        Ok(()) => match page.whole() {
+            Some(text) => to.write_all(text),
+            None => to.write_all(b"the page is too long\n"),
+        },
+        Err(_) => to.write_all(b"a block has 242 bytes\n"),
+    }
 }
 
 fn main(rt: HostRuntime) -> io::Result<()> {
@@ -26,13 +32,5 @@ fn main(rt: HostRuntime) -> io::Result<()> {
     // a file's name has at most 255 bytes
     let mut file = [0u8; 256];
     let named = argument(&rt, 1, &mut file);
-    let mut text = buffer();
-    let end = write_page(&file[..named], &block[..n], &mut text);
-    if end == 0 {
-        return rt.write_all(b"a block has 242 bytes\n");
-    }
-    if end < 65536 {
-        return rt.write_all(&text[..end]);
-    }
-    rt.write_all(b"the page is too long\n")
+    print_page(&rt, &file[..named], &block[..n])
 }

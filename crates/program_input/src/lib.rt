@@ -4,6 +4,7 @@
 ghost use Rattle.std.specs.Prelude.{◌≡◌, ◌<◌, ◌≤◌, IfOk, length, take};
 ghost use Rattle.std.specs.Io.KnownBytes.{Consumes, IsAtEnd};
 
+use decimal_reading::read_at_most;
 use std::env::Env;
 use std::io;
 use std::io::Read;
@@ -33,4 +34,20 @@ pub fn argument<E: Env>(env: &E, i: usize, buf: &mut [u8]) -> usize
         Ok(n) => n,
         Err(_) => 0,
     }
+}
+
+// Argument i as a number in decimal digits, and `most` where it is a larger one or none.
+pub fn number_argument(env: &impl Env, i: usize, most: u16) -> u16
+    ensures { result ≤ most }
+{
+    let mut word = [0u8; 16];
+    let n = argument(env, i, &mut word);
+    read_at_most(&word[..n], most)
+}
+
+// The first argument as a number; 255, which is no number of turns, where it is a larger one or none.
+pub fn turns_argument(env: &impl Env) -> u32
+    ensures { result ≤ 255 }
+{
+    number_argument(env, 1, 255) as u32
 }

@@ -1,39 +1,14 @@
 // What is refused, and what is not: the numbers of blocks, codes, strips and levels about each limit.
 use crate::report;
-use block::HeightAnswer;
-use block_strip::StripAnswer;
-use curve_finder::{CurveAnswer, curve_for_end};
+use curve_finder::curve_for_end;
 use float_bits::float_of;
-use refusals::refusal_number;
+use refusals::answer_refusal;
 use std::io;
-
-// The refusal's number, and 0 for none.
-fn of_height(answer: HeightAnswer) -> u32 {
-    match answer {
-        HeightAnswer::Height(_) => 0,
-        HeightAnswer::Refused(why) => refusal_number(why),
-    }
-}
-
-fn of_strip(answer: StripAnswer) -> u32 {
-    match answer {
-        StripAnswer::Filled(_) => 0,
-        StripAnswer::Refused(why) => refusal_number(why),
-    }
-}
-
-fn of_curve(answer: CurveAnswer) -> u32 {
-    match answer {
-        CurveAnswer::Found { byte: _, tried: _ } => 0,
-        CurveAnswer::NoneFound { tried: _ } => 0,
-        CurveAnswer::Refused(why) => refusal_number(why),
-    }
-}
 
 // The refusal of a block of the first n bytes, and of a code.
 fn print_block(to: &impl Print, label: &[u8], bytes: &[u8], n: usize, code: u32) -> io::Result<()> {
     if n <= bytes.len() {
-        let refusal = of_height(block::height(&bytes[..n], code, 0.0));
+        let refusal = answer_refusal(block::height(&bytes[..n], code, 0.0));
         report::print_count(to, label, refusal)?;
     }
     Ok(())
@@ -48,7 +23,7 @@ fn print_strip(
     n: usize,
 ) -> io::Result<()> {
     if n <= strip.len() {
-        let refusal = of_strip(block_strip::strip(block, 0, &mut strip[..n]));
+        let refusal = answer_refusal(block_strip::strip(block, 0, &mut strip[..n]));
         report::print_count(to, label, refusal)?;
     }
     Ok(())
@@ -74,7 +49,7 @@ fn print_strips(to: &impl Print) -> io::Result<()> {
 
 // The refusal of a wanted level.
 fn print_level(to: &impl Print, label: &[u8], level: f32) -> io::Result<()> {
-    report::print_count(to, label, of_curve(curve_for_end(0, level)))
+    report::print_count(to, label, answer_refusal(curve_for_end(0, level)))
 }
 
 fn print_levels(to: &impl Print) -> io::Result<()> {

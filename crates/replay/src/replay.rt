@@ -2,9 +2,8 @@
 use crate::{report, whole};
 use float_bits::{agreeing, float_of, low_byte, low_word};
 use gates::arpeggiator_gates;
-use lists::at_most;
 use number_lines::{Line, MOST, end_line, is_blank, no_line, read_byte};
-use replay_answers::{Answer, built, of_gates, of_generator, of_taps};
+use replay_answers::{built, of_gates, of_generator, of_taps};
 use std::io;
 use taps::{MAX_TAPS, Taps};
 
@@ -59,7 +58,7 @@ fn more(n: u32) -> u32 {
 }
 
 // What the crates answer there.
-fn answered(place: Place) -> Answer {
+fn answered(place: Place) -> Option<u32> {
     if place.whole {
         return whole::answered(place);
     }
@@ -111,7 +110,7 @@ fn counted(tally: Tally, place: Place) -> Tally {
 // The tally after a comparison. The computed word is printed and, where the two differ, the expected one.
 fn compared(to: &impl Print, tally: Tally, place: Place, expected: u32) -> io::Result<Tally> {
     let mut next = counted(tally, place);
-    let Answer::Word(computed) = answered(place) else {
+    let Some(computed) = answered(place) else {
         report::print_unanswered(to, expected)?;
         next.unanswered = more(next.unanswered);
         return Ok(next);
@@ -253,18 +252,16 @@ impl Reading {
         if line.wrong {
             return self.wrong_line(to);
         }
-        report::print_byte(to, line.letter)?;
+        report::print_byte(to, line.letter.unwrap_or(0))?;
         let mut next = self;
         let mut place = self.place;
-        place.letter = line.letter;
+        place.letter = line.letter.unwrap_or(0);
         place.index = 0;
         place.position = 0;
         next.place = place;
-        let count = at_most(line.count, MOST);
-        let mut i: usize = 0;
-        while i < count {
-            next = next.number(to, line.numbers[i])?;
-            i += 1;
+        let count = line.count.min(MOST);
+        for &value in &line.numbers[..count] {
+            next = next.number(to, value)?;
         }
         report::print_byte(to, b'\n')?;
         Ok(next)
@@ -275,16 +272,13 @@ impl Reading {
 pub fn replay(to: &impl Print, list: &[u8]) -> io::Result<Tally> {
     let mut state = Reading::start();
     let mut line = no_line();
-    let mut i = 0;
-    while i < list.len() {
-        let b = list[i];
+    for &b in list {
         if b == b'\n' {
             state = state.line(to, end_line(line))?;
             line = no_line();
         } else {
             line = read_byte(line, b);
         }
-        i += 1;
     }
     state = state.line(to, end_line(line))?;
     Ok(state.tally)

@@ -1,66 +1,44 @@
 // What the crates answer of a whole block and a code: which bytes of the block count is theirs to know.
 use crate::replay::{GATES, Place};
-use block::HeightAnswer;
-use block_generator::{AnchoredAnswer, RestAnswer, ScaleAnswer};
-use block_settings::SettingsAnswer;
 use float_bits::{float_of, low_word};
-use gates::Gates;
-use marks::Marks;
-use replay_answers::{Answer, of_flag, of_float, of_gates, of_marks};
+use gates::{Gates, arpeggiator_gates};
+use marks::{Marks, no_marks};
+use replay_answers::{of_flag, of_float, of_gates, of_marks};
 use replay_blocks::drawn_block;
 
-fn setting(block: &[u8], code: u32, i: u32) -> Answer {
-    let given = block_settings::settings(block, code);
-    match given {
-        SettingsAnswer::Settings(shape) => replay_answers::setting(shape, i),
-        SettingsAnswer::Refused(_) => Answer::Nothing,
-    }
+fn setting(block: &[u8], code: u32, i: u32) -> Option<u32> {
+    let shape = block_settings::settings(block, code).ok()?;
+    replay_answers::setting(shape, i)
 }
 
-fn height(block: &[u8], code: u32, t: f32, i: u32) -> Answer {
-    let given = block::height(block, code, t);
-    match given {
-        HeightAnswer::Height(h) => replay_answers::height(h, i),
-        HeightAnswer::Refused(_) => Answer::Nothing,
-    }
+fn height(block: &[u8], code: u32, t: f32, i: u32) -> Option<u32> {
+    let h = block::height(block, code, t).ok()?;
+    replay_answers::height(h, i)
 }
 
-fn rest(block: &[u8], code: u32) -> Answer {
-    let given = block_generator::rest(block, code);
-    match given {
-        RestAnswer::Rest(x) => of_float(x),
-        RestAnswer::Refused(_) => Answer::Nothing,
-    }
+fn rest(block: &[u8], code: u32) -> Option<u32> {
+    of_float(block_generator::rest(block, code).ok()?)
 }
 
-fn scale(block: &[u8], code: u32, i: u32) -> Answer {
-    let given = block_generator::scale(block, code);
-    match given {
-        ScaleAnswer::Scale(s) => replay_answers::scale(s, i),
-        ScaleAnswer::Refused(_) => Answer::Nothing,
-    }
+fn scale(block: &[u8], code: u32, i: u32) -> Option<u32> {
+    let s = block_generator::scale(block, code).ok()?;
+    replay_answers::scale(s, i)
 }
 
-fn anchored(block: &[u8], code: u32) -> Answer {
-    let given = block_generator::anchored(block, code);
-    match given {
-        AnchoredAnswer::Anchored(b) => of_flag(b),
-        AnchoredAnswer::Refused(_) => Answer::Nothing,
-    }
+fn anchored(block: &[u8], code: u32) -> Option<u32> {
+    of_flag(block_generator::anchored(block, code).ok()?)
 }
 
 // What is refused has no marks, and no gates.
 fn marks_of(block: &[u8], code: u32) -> Marks {
-    let given = block_marks::marks(block, code);
-    given.marks
+    block_marks::marks(block, code).unwrap_or(no_marks())
 }
 
 fn gates_of(block: &[u8]) -> Gates {
-    let given = block_gates::gates(block);
-    given.gates
+    block_gates::gates(block).unwrap_or(arpeggiator_gates(0))
 }
 
-fn code_answer(block: &[u8], code: u32, letter: u8, i: u32, position: u32) -> Answer {
+fn code_answer(block: &[u8], code: u32, letter: u8, i: u32, position: u32) -> Option<u32> {
     match letter {
         b'S' => setting(block, code, i),
         b'H' => height(block, code, float_of(position), i),
@@ -71,7 +49,7 @@ fn code_answer(block: &[u8], code: u32, letter: u8, i: u32, position: u32) -> An
     }
 }
 
-pub fn answered(place: Place) -> Answer {
+pub fn answered(place: Place) -> Option<u32> {
     let block = drawn_block(place.seed, place.most);
     if place.code == GATES {
         return of_gates(gates_of(&block), place.letter, place.index);

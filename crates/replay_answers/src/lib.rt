@@ -1,4 +1,4 @@
-// What the crates answer to a letter of the list and a number's place in its line, as a word.
+// What the crates answer to a letter of the list and a number's place in its line: a word, or none where there is none to be had.
 use curve::Height;
 use float_bits::{flag, float_of, low_byte, word_of};
 use gates::{GATES_DRAWN, Gates};
@@ -8,23 +8,16 @@ use settings::{Envelope, Filter, Lfo, LfoShape, Oscillator, Pass};
 use shape_heights::shape_height;
 use taps::Taps;
 
-// A word, or nothing where there is none to be had.
-#[derive(Clone, Copy)]
-pub enum Answer {
-    Word(u32),
-    Nothing,
+pub fn of_float(x: f32) -> Option<u32> {
+    Some(word_of(x))
 }
 
-pub fn of_float(x: f32) -> Answer {
-    Answer::Word(word_of(x))
-}
-
-pub fn of_flag(b: bool) -> Answer {
-    Answer::Word(flag(b))
+pub fn of_flag(b: bool) -> Option<u32> {
+    Some(flag(b))
 }
 
 // ---- settings, in the order of their declarations
-fn envelope_setting(e: Envelope, i: u32) -> Answer {
+fn envelope_setting(e: Envelope, i: u32) -> Option<u32> {
     match i {
         0 => of_float(e.first),
         1 => of_float(e.second),
@@ -34,7 +27,7 @@ fn envelope_setting(e: Envelope, i: u32) -> Answer {
         5 => of_float(e.attack_bend),
         6 => of_float(e.decay_bend),
         7 => of_float(e.release_bend),
-        _ => Answer::Nothing,
+        _ => None,
     }
 }
 
@@ -50,15 +43,15 @@ fn shape_number(shape: LfoShape) -> u32 {
     }
 }
 
-fn lfo_setting(l: Lfo, i: u32) -> Answer {
+fn lfo_setting(l: Lfo, i: u32) -> Option<u32> {
     let shape = l.shape;
     match i {
-        0 => Answer::Word(shape_number(shape)),
+        0 => Some(shape_number(shape)),
         1 => of_float(l.turns),
         2 => of_float(l.slew),
         3 => of_flag(l.unipolar),
         4 => of_flag(l.synced),
-        _ => Answer::Nothing,
+        _ => None,
     }
 }
 
@@ -69,37 +62,37 @@ fn pass_number(pass: Pass) -> u32 {
     }
 }
 
-fn filter_setting(f: Filter, i: u32) -> Answer {
+fn filter_setting(f: Filter, i: u32) -> Option<u32> {
     let pass = f.pass;
     match i {
         0 => of_float(f.slope),
         1 => of_float(f.resonance),
         2 => of_float(f.span),
-        3 => Answer::Word(pass_number(pass)),
-        _ => Answer::Nothing,
+        3 => Some(pass_number(pass)),
+        _ => None,
     }
 }
 
-fn oscillator_setting(o: Oscillator, i: u32) -> Answer {
+fn oscillator_setting(o: Oscillator, i: u32) -> Option<u32> {
     match i {
         0 => of_flag(o.saw),
         1 => of_flag(o.pulse),
         2 => of_float(o.width),
         3 => of_float(o.sweep),
         4 => of_float(o.level),
-        _ => Answer::Nothing,
+        _ => None,
     }
 }
 
 // The one setting that there is.
-fn only_setting(x: f32, i: u32) -> Answer {
+fn only_setting(x: f32, i: u32) -> Option<u32> {
     if i == 0 {
         return of_float(x);
     }
-    Answer::Nothing
+    None
 }
 
-pub fn setting(shape: Shape, i: u32) -> Answer {
+pub fn setting(shape: Shape, i: u32) -> Option<u32> {
     match shape {
         Shape::Envelope(e) => envelope_setting(e, i),
         Shape::Fade(f) => only_setting(f.end, i),
@@ -112,89 +105,87 @@ pub fn setting(shape: Shape, i: u32) -> Answer {
 
 // ---- heights
 // The height itself, then its steps: on a line of the list, the position stands before them.
-pub fn height(h: Height, i: u32) -> Answer {
+pub fn height(h: Height, i: u32) -> Option<u32> {
     match i {
         1 => of_float(h.height),
-        2 => Answer::Word(h.steps),
-        _ => Answer::Nothing,
+        2 => Some(h.steps),
+        _ => None,
     }
 }
 
 // ---- marks
-fn mark_count(marks: Marks) -> Answer {
-    Answer::Word((marks.count % 256) as u32)
+fn mark_count(marks: Marks) -> Option<u32> {
+    Some((marks.count % 256) as u32)
 }
 
-fn mark_at(marks: Marks, i: u32) -> Answer {
+fn mark_at(marks: Marks, i: u32) -> Option<u32> {
     let n = i as usize;
     if n < marks.count && n < MAX_MARKS {
         return of_float(marks.places[n].at);
     }
-    Answer::Nothing
+    None
 }
 
-fn mark_kind(marks: Marks, i: u32) -> Answer {
+fn mark_kind(marks: Marks, i: u32) -> Option<u32> {
     let n = i as usize;
     if n < marks.count && n < MAX_MARKS {
-        let mark = marks.places[n];
-        let kind = mark.kind;
-        return Answer::Word(kind_number(kind) as u32);
+        return Some(kind_number(marks.places[n].kind) as u32);
     }
-    Answer::Nothing
+    None
 }
 
 // How many marks, the position of one, its kind.
-pub fn of_marks(marks: Marks, letter: u8, i: u32) -> Answer {
+pub fn of_marks(marks: Marks, letter: u8, i: u32) -> Option<u32> {
     match letter {
         b'N' => mark_count(marks),
         b'M' => mark_at(marks, i),
         b'K' => mark_kind(marks, i),
-        _ => Answer::Nothing,
+        _ => None,
     }
 }
 
 // ---- scale
-pub fn scale(scale: Scale, i: u32) -> Answer {
+pub fn scale(scale: Scale, i: u32) -> Option<u32> {
     match i {
-        0 => Answer::Word(scale_number(scale)),
+        0 => Some(scale_number(scale)),
         1 => of_float(scale_value(scale)),
-        _ => Answer::Nothing,
+        _ => None,
     }
 }
 
 // ---- gates
-fn gate_count(gates: Gates) -> Answer {
-    Answer::Word((gates.count % 256) as u32)
+fn gate_count(gates: Gates) -> Option<u32> {
+    Some((gates.count % 256) as u32)
 }
 
-fn gate_start(gates: Gates, i: u32) -> Answer {
+fn gate_start(gates: Gates, i: u32) -> Option<u32> {
     let n = i as usize;
     if n < gates.count && n < GATES_DRAWN {
         return of_float(gates.places[n].start);
     }
-    Answer::Nothing
+    None
 }
 
-fn gate_end(gates: Gates, i: u32) -> Answer {
+fn gate_end(gates: Gates, i: u32) -> Option<u32> {
     let n = i as usize;
     if n < gates.count && n < GATES_DRAWN {
         return of_float(gates.places[n].end);
     }
-    Answer::Nothing
+    None
 }
 
 // How many gates, the start of one, its end.
-pub fn of_gates(gates: Gates, letter: u8, i: u32) -> Answer {
+pub fn of_gates(gates: Gates, letter: u8, i: u32) -> Option<u32> {
     match letter {
         b'N' => gate_count(gates),
         b'M' => gate_start(gates, i),
         b'E' => gate_end(gates, i),
-        _ => Answer::Nothing,
+        _ => None,
     }
 }
 
 // ---- taps
-pub fn of_taps(taps: Taps, letter: u8, i: u32, position: u32) -> Answer {
+pub fn of_taps(taps: Taps, letter: u8, i: u32, position: u32) -> Option<u32> {
     match letter {
         b'H' => height(taps::taps_height(taps, float_of(position)), i),
         b'R' => of_float(tap_marks::taps_rest()),
@@ -205,7 +196,7 @@ pub fn of_taps(taps: Taps, letter: u8, i: u32, position: u32) -> Answer {
 }
 
 // ---- a generator
-pub fn of_generator(g: Generator, letter: u8, i: u32, position: u32) -> Answer {
+pub fn of_generator(g: Generator, letter: u8, i: u32, position: u32) -> Option<u32> {
     let shape = g.shape;
     match letter {
         b'S' => setting(shape, i),

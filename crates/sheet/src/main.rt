@@ -4,11 +4,11 @@
 
 ghost use Rattle.std.specs.Prelude.{◌≡◌, length};
 
-use block::BLOCK;
-use decimal_reading::read_at_most;
-use program_input::{argument, read_full};
-use std::env::Env;
+use compared_blocks::BLOCK;
+use program_input::{argument, read_full, turns_argument};
+use refusals::Refusal;
 use std::io;
+use text::Writer;
 
 // Room for the page, which has some 90,000 bytes, or 170,000 with an older program's curves. The contract gives its length only, which lending it as a slice asks for.
 fn buffer() -> [u8; 262144]
@@ -17,28 +17,26 @@ fn buffer() -> [u8; 262144]
     [0; 262144]
 }
 
-// Where the page of a block, or of two, ends; 0 where there is none.
-fn write_page(turns: u32, oldfile: &[u8], file: &[u8], blocks: &[u8], text: &mut [u8]) -> usize
-    ensures { length text.new ≡ length text.old }
-{
+// The page of a block, or of two.
+fn write_page(
+    page: &mut Writer,
+    turns: u32,
+    oldfile: &[u8],
+    file: &[u8],
+    blocks: &[u8],
+) -> Result<(), Refusal> {
     if blocks.len() == 2 * BLOCK {
-        return page::comparison(
+        page::comparison(
+            page,
             turns,
             oldfile,
             &blocks[..BLOCK],
             file,
             &blocks[BLOCK..],
-            text,
-        );
+        )
+    } else {
+        page::page(page, turns, file, blocks)
     }
-    page::page(turns, file, blocks, text)
-}
-
-// The first argument as a number; 255, which is no number of turns, where it is a larger one or none.
-fn turns_argument(env: &impl Env) -> u32 {
-    let mut word = [0u8; 16];
-    let n = argument(env, 1, &mut word);
-    read_at_most(&word[..n], 255) as u32
 }
 
 fn main(rt: HostRuntime) -> io::Result<()> {
@@ -51,18 +49,19 @@ fn main(rt: HostRuntime) -> io::Result<()> {
     let mut oldfile = [0u8; 256];
     let oldnamed = argument(&rt, 3, &mut oldfile);
     let mut text = buffer();
-    let end = write_page(
+    let mut page = Writer::new(&mut text);
+    let written = write_page(
+        &mut page,
         turns,
         &oldfile[..oldnamed],
         &file[..named],
         &blocks[..n],
-        &mut text,
     );
-    if end == 0 {
+    if written.is_err() {
         return rt.write_all(b"a block has 242 bytes, and turns are 6 or 8\n");
     }
-    if end < 262144 {
-        return rt.write_all(&text[..end]);
+    match page.whole() {
+        Some(text) => rt.write_all(text),
+        None => rt.write_all(b"the page is too long\n"),
     }
-    rt.write_all(b"the page is too long\n")
 }
