@@ -30,7 +30,7 @@ pub fn start_line(out: &mut Writer, y: u64, name: &[u8], older: &[u8], block: &[
 pub fn put_plain(out: &mut Writer, y: u64, name: &[u8], older: &[u8], block: &[u8], n: usize)
     ensures { Puts out.old (plain_dial y name.now (byte_at older.now n) (byte_at block.now n)) out.new }
 {
-    start_line(out, y, name, older, block, n);
+    let _ = start_line(out, y, name, older, block, n);
     end(out);
 }
 

@@ -64,7 +64,7 @@ pub fn put_escaped_all(out: &mut Writer, text: &[u8])
 pub fn put_shown_all(out: &mut Writer, text: &[u8])
     ensures { Puts out.old (shown_all text.now) out.new }
 {
-    for b in text {
-        put_shown(out, *b);
+    for byte in text {
+        put_shown(out, *byte);
     }
 }

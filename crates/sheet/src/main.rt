@@ -17,14 +17,18 @@ fn buffer() -> [u8; 262144]
     [0; 262144]
 }
 
-// The page of a block, or of two.
+// The page of a block, or of two. The writer keeps its buffer, and that its length.
+#[tactic(auto, using(text::proofs::Whole::same_length))]
 fn write_page(
     page: &mut Writer,
     turns: u32,
     oldfile: &[u8],
     file: &[u8],
     blocks: &[u8],
-) -> Result<(), Refusal> {
+) -> Result<(), Refusal>
+    ensures same_buffer { page.new.buffer.ghost_name ≡ page.old.buffer.ghost_name }
+    ensures same_length { length page.new.buffer.now ≡ length page.old.buffer.now }
+{
     if blocks.len() == 2 * BLOCK {
         page::comparison(
             page,

@@ -19,12 +19,12 @@ all_then p (b ∷ x) y = all_then (put_byte p b) x y
 -- Nothing is put by not writing.
 pub puts_none : (w : Writer) → Puts w [] w
 unfolding put_all
-puts_none w = record { page = refl }
+puts_none w = record { page = refl; same = refl }
 
 infixl 5 ◌⨾◌
 -- One text, and then another.
 pub ◌⨾◌ : {w w₁ w₂ : Writer} {x y : List ℕ} → Puts w x w₁ → Puts w₁ y w₂ → Puts w (x ++ y) w₂
-◌⨾◌ {x = x} {y = y} f g = record { page = g.page ∙ ap (λ (q : Page). put_all q y) f.page ∙ all_then _ x y }
+◌⨾◌ {x = x} {y = y} f g = record { page = g.page ∙ ap (λ (q : Page). put_all q y) f.page ∙ all_then _ x y; same = g.same ∙ f.same }
 
 -- The same of an equal text.
 pub puts_as : {w w₁ : Writer} {x y : List ℕ} → x ≡ y → Puts w x w₁ → Puts w y w₁
@@ -52,14 +52,15 @@ module _ (f : ℕ → List ℕ) where
 
 -- ---- a text put from its front: what is left of x is y
 pub record Left (w : Writer) (x : List ℕ) (w₁ : Writer) (y : List ℕ) : Type 0 where
-  pub same : put_all (page_of w₁) y ≡ put_all (page_of w) x
+  pub left : put_all (page_of w₁) y ≡ put_all (page_of w) x
+  pub same : w₁.buffer.ghost_name ≡ w.buffer.ghost_name
 
 pub left_all : {w : Writer} {x : List ℕ} → Left w x w x
-left_all = record { same = refl }
+left_all = record { left = refl; same = refl }
 
 pub left_less : {w w₁ w₂ : Writer} {x z y : List ℕ} → Left w x w₁ (z ++ y) → Puts w₁ z w₂ → Left w x w₂ y
-left_less {z = z} {y = y} f g = record { same = ap (λ (q : Page). put_all q y) g.page ∙ all_then _ z y ∙ f.same }
+left_less {z = z} {y = y} f g = record { left = ap (λ (q : Page). put_all q y) g.page ∙ all_then _ z y ∙ f.left; same = g.same ∙ f.same }
 
 pub left_none : {w w₁ : Writer} {x : List ℕ} → Left w x w₁ [] → Puts w x w₁
 unfolding put_all
-left_none f = record { page = f.same }
+left_none f = record { page = f.left; same = f.same }

@@ -33,6 +33,8 @@ put_all p (b ∷ text) = put_all (put_byte p b) text
 abbrev pub page_of : Writer → Page
 page_of w = record { buffer = w.buffer.now; at = w.at }
 
--- The text put by a writer, which is `before` and then `after`. A text is whole where the position after it is below the buffer's length.
+-- The text put by a writer, which is `before` and then `after`, into the buffer that was lent to it: who lent it finds the text there. A text is whole where the position after it is below
+-- the buffer's length.
 pub record Puts (before : Writer) (text : List ℕ) (after : Writer) : Type 0 where
   pub page : page_of after ≡ put_all (page_of before) text
+  pub same : after.buffer.ghost_name ≡ before.buffer.ghost_name

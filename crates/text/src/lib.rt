@@ -14,7 +14,7 @@ pub struct Writer<'a> {
 impl<'a> Writer<'a> {
     // A writer that begins at the buffer's start.
     pub fn new(buffer: &'a mut [u8]) -> Writer<'a>
-        ensures { (result.buffer.now ≡ buffer.old) × (result.at ≡ 0) }
+        ensures { (result.buffer.now ≡ buffer.old) × (result.at ≡ 0) × (result.buffer.ghost_name ≡ buffer.entry.ghost_name) }
     {
         Writer { buffer, at: 0 }
     }

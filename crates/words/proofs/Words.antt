@@ -45,6 +45,12 @@ unfolding word_of
 word_reached words zero h = refl
 word_reached words (suc k) h = absurd (omega arith)
 
+-- past the last word, no word is passed
+pub word_last : (words : List ℕ) (k : ℕ) → words ≡ past_bar words words → first_word words ≡ word_of words k
+unfolding word_of
+word_last words zero e = refl
+word_last words (suc k) e = rw (← e) (word_last words k e)
+
 -- ---- the place in a list
 module _ (list : List ℕ) (i b : ℕ) where
   here : i < length list → get_or list i 0 ≡ b → index_of (drop i list) b ≡ 0

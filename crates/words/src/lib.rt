@@ -7,25 +7,28 @@ ghost use Rattle.words.specs.Words.{first_word, past_bar, word_of, index_of};
 
 use text::{Writer, put_byte};
 
-// What stands past the first bar; of the last word, the word.
-fn past_bar(words: &[u8]) -> &[u8]
-    ensures { result.now ≡ past_bar words.now words.now }
+// What stands past the first bar; nothing does past the last word.
+fn past_bar(words: &[u8]) -> Option<&[u8]>
+    ensures { MatchOption result (words.now ≡ past_bar words.now words.now) (λ past. past.now ≡ past_bar words.now words.now) }
 {
     for (i, b) in words.iter().enumerate() {
         if *b == b'|' {
-            return &words[i + 1..];
+            return Some(&words[i + 1..]);
         }
     }
-    words
+    None
 }
 
-// The words from word k on.
+// The words from word k on; a number past the last word's costs no more than the words do.
 fn words_from(words: &[u8], k: usize) -> &[u8]
     ensures { first_word result.now ≡ word_of words.now k }
 {
     let mut rest = words;
     for _ in 0..k {
-        rest = past_bar(rest);
+        match past_bar(rest) {
+            Some(past) => rest = past,
+            None => return rest,
+        }
     }
     rest
 }

@@ -4,5 +4,5 @@ use Rattle.escapes.specs.Escaped.{shown_all}
 use Rattle.text.proofs.Writing.{Left}
 use Rattle.escapes.proofs.put_shown_all.Given as goal
 
-abbrev pub invariant-loop-b : goal.invariant-loop-b
-invariant-loop-b l = Left l.initial.out (shown_all l.text) l.out (shown_all (drop l.b-index l.text))
+abbrev pub invariant-loop-byte : goal.invariant-loop-byte
+invariant-loop-byte l = Left l.initial.out (shown_all l.text) l.out (shown_all (drop l.byte-index l.text))
